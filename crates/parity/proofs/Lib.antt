@@ -1,0 +1,16 @@
+pub mod Xor
+pub mod Sum
+pub mod Modular
+pub mod Column
+pub mod Turn
+pub mod Pair
+pub mod Array
+pub mod Cells
+pub mod Balance
+pub mod Bytes
+pub mod Count
+pub mod Columns
+pub mod Prime
+pub mod Stripes
+pub mod Theorems
+pub mod Table

@@ -1,0 +1,47 @@
+-- What follows from the equations, for every shape. Each statement is a type; the proof of the same name stands in proofs/Theorems.
+use mathlib.Core.Path.{_≡_}
+use mathlib.Core.Logic.{_≢_, _↔_}
+use mathlib.Core.Bool.{Bool, true}
+use mathlib.Core.List.{List}
+use Prim.Native.Nat.{ℕ, _+_, _≤_, _<_}
+use lib.Dec.{eqb}
+use Rattle.parity.specs.Shape.{OddPrime, accepted, member, Shape}
+use Rattle.parity.specs.Stripe.{Stripe, Valid, Intact}
+use Rattle.parity.specs.Presence.{absences, differing, DifferIn, Agrees}
+
+-- The table holds every odd prime up to 127 and nothing else.
+unfoldable pub Table : Type 0
+Table = (n : ℕ) → (member n accepted ≡ true) ↔ OddPrime n
+
+-- Two different valid stripes of one shape differ in at least three columns.
+unfoldable pub Distance : Type 0
+Distance = (m k b : ℕ) → Shape m k b → (s v : List ℕ) → Valid m k b s → Valid m k b v → s ≢ v → 3 ≤ differing m k b s v
+
+-- With at most two columns absent at most one valid stripe agrees with the columns that are present.
+unfoldable pub AtMostOne : Type 0
+AtMostOne = (m k b : ℕ) → Shape m k b → (map : List Bool) → absences k map ≤ 2 → (s v w : List ℕ) → Valid m k b v → Valid m k b w
+    → Agrees m k b map s v → Agrees m k b map s w → v ≡ w
+
+-- With exactly two columns absent exactly one valid stripe agrees, whatever the others hold.
+unfoldable pub ExactlyOne : Type 0
+ExactlyOne = (m k b : ℕ) → Shape m k b → (map : List Bool) → absences k map ≡ 2 → (s : List ℕ) → Stripe m k b s
+    → (v : List ℕ) × Valid m k b v × Agrees m k b map s v × ((w : List ℕ) → Valid m k b w → Agrees m k b map s w → w ≡ v)
+
+-- With three or more columns absent two different valid stripes agree, whatever the others hold.
+unfoldable pub NeverOne : Type 0
+NeverOne = (m k b : ℕ) → Shape m k b → (map : List Bool) → 3 ≤ absences k map → (s : List ℕ) → Stripe m k b s
+    → (v : List ℕ) × (w : List ℕ) × Valid m k b v × Valid m k b w × Agrees m k b map s v × Agrees m k b map s w × (v ≢ w)
+
+-- What stands in an absent column's place never alters what agrees.
+unfoldable pub AbsentUnread : Type 0
+AbsentUnread = (m k b : ℕ) (map : List Bool) (s r : List ℕ) → Agrees m k b map s r → (v : List ℕ) → Agrees m k b map s v ↔ Agrees m k b map r v
+
+-- Of a stripe that is not valid at most one column, one for all bytes of a cell, can be rewritten to make it valid, and in one way.
+unfoldable pub OneWrong : Type 0
+OneWrong = (m k b : ℕ) → Shape m k b → (s : List ℕ) → Stripe m k b s → (Valid m k b s → ⊥)
+    → (u v : List ℕ) (x y : ℕ) → x < k + 2 → y < k + 2 → Valid m k b u → Valid m k b v
+    → DifferIn m k b (eqb x) s u → DifferIn m k b (eqb y) s v → (x ≡ y) × (u ≡ v)
+
+-- A stripe is intact exactly when it is valid.
+unfoldable pub IntactIsValid : Type 0
+IntactIsValid = (m k b : ℕ) (s : List ℕ) → Stripe m k b s → Intact m k b s ↔ Valid m k b s
