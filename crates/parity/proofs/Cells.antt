@@ -5,6 +5,7 @@
 --   cell-below              row m - 1 and what is below it are zero
 --   diagonal m k a i        the sum of a(i - t mod m, t) over t from 0 to m - 1, so that D is S plus it
 --   S-diagonal              S is diagonal m - 1
+--   cell-same, H-same, D-same   H and D look at a stripe's own rows and data columns alone
 --   holds-same              the equations look at a stripe's own rows and columns alone
 use mathlib.Core.Path.{_≡_, refl, sym, ap, ap₂, _∙_}
 use mathlib.Core.Bool.{Bool, true, false, cond, not}
@@ -72,23 +73,29 @@ pub when-same : (c : Bool) (x y : ℕ) → (T c → x ≡ y) → cond c x 0 ≡ 
 when-same true x y h = h tt
 when-same false x y h = refl
 
-module _ (m k : ℕ) (a b : Lane) (same : (i t : ℕ) → i < m - 1 → t < k + 2 → a i t ≡ b i t) where
-  cell-same : (i t : ℕ) → cell m k a i t ≡ cell m k b i t
-  unfolding cell
-  cell-same i t =
-      when-same (ltb i (m - 1)) (cond (ltb t k) (a i t) 0) (cond (ltb t k) (b i t) 0) (λ p.
-      when-same (ltb t k) (a i t) (b i t) (λ q. let l = ltb→lt t k q in same i t (ltb→lt i (m - 1) p) (omega arith)))
+pub cell-same : (m k : ℕ) (a b : Lane) (i t : ℕ) → (i < m - 1 → t < k → a i t ≡ b i t) → cell m k a i t ≡ cell m k b i t
+unfolding cell
+cell-same m k a b i t same =
+    when-same (ltb i (m - 1)) (cond (ltb t k) (a i t) 0) (cond (ltb t k) (b i t) 0) (λ p.
+    when-same (ltb t k) (a i t) (b i t) (λ q. same (ltb→lt i (m - 1) p) (ltb→lt t k q)))
 
+module _ (m k : ℕ) (a b : Lane) (same : (i t : ℕ) → i < m - 1 → t < k → a i t ≡ b i t) where
   pub H-same : (i : ℕ) → H m k a i ≡ H m k b i
   unfolding H
-  H-same i = sum-cong m (λ t c. cell-same i t)
+  H-same i = sum-cong m (λ t c. cell-same m k a b i t (same i t))
 
   pub D-same : (i : ℕ) → D m k a i ≡ D m k b i
   unfolding D S
-  D-same i = ap₂ _⊕_ (sum-cong (m - 1) (λ t c. cell-same (m - 1 - suc t) (suc t))) (sum-cong m (λ t c. cell-same (back m i t) t))
+  D-same i = ap₂ _⊕_ (sum-cong (m - 1) (λ j c. at (m - 1 - suc j) (suc j))) (sum-cong m (λ t c. at (back m i t) t))
+    where
+      at : (i t : ℕ) → cell m k a i t ≡ cell m k b i t
+      at i t = cell-same m k a b i t (same i t)
 
-  pub holds-same : Holds m k a → Holds m k b
-  holds-same v = record {
-    h = λ i l. sym (same i k l (omega arith)) ∙ v .h i l ∙ H-same i;
-    d = λ i l. sym (same i (k + 1) l (omega arith)) ∙ v .d i l ∙ D-same i;
-  }
+pub holds-same : (m k : ℕ) (a b : Lane) → ((i t : ℕ) → i < m - 1 → t < k + 2 → a i t ≡ b i t) → Holds m k a → Holds m k b
+holds-same m k a b same v = record {
+  h = λ i l. sym (same i k l (omega arith)) ∙ v .h i l ∙ H-same m k a b real i;
+  d = λ i l. sym (same i (k + 1) l (omega arith)) ∙ v .d i l ∙ D-same m k a b real i;
+}
+  where
+    real : (i t : ℕ) → i < m - 1 → t < k → a i t ≡ b i t
+    real i t l c = same i t l (omega arith)

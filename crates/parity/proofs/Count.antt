@@ -3,12 +3,15 @@
 --   none-pass        a count of zero: every number below n fails
 --   all-fail         and the other way round
 --   last-pass        the highest number below n that passes, and the count of those below it
+--   one-pass         a count of at most one: every number below n but one fails
 --   some-false, false-some   none passes, said number by number
+--   some-true        a number that passes
 use mathlib.Core.Path.{_≡_, refl, sym, ap, ap₂, _∙_}
-use mathlib.Core.Logic.{_⊎_, inl, inr}
-use mathlib.Core.Bool.{Bool, true, false, cond, _||_}
+use mathlib.Core.Logic.{_≢_, _⊎_, inl, inr}
+use mathlib.Core.Bool.{Bool, true, false, cond, _||_, false≢true}
 use Prim.Native.Nat.{ℕ, zero, suc, _≤_, _<_}
 use native.Mathlib.Nat.{le-step, lt-suc-self, eq-or-lt-of-le, le-of-suc-le-suc, not-suc-le-zero}
+use native.Mathlib.Decide.{decLt}
 use native.Mathlib.Omega.{arith}
 use Rattle.parity.specs.Sum.{count, some}
 
@@ -56,6 +59,16 @@ last-pass (suc n) f h = go (f n) refl (last-pass n f)
           left = rw e (r .left);
         }
 
+pub one-pass : (n : ℕ) (f : ℕ → Bool) → 0 < n → count n f ≤ 1 → (u : ℕ) × (u < n) × ((t : ℕ) → t < n → t ≢ u → f t ≡ false)
+one-pass n f pos few = elim (decLt 0 (count n f)) [
+  | no z ↦ (0, pos, λ t l ne. none-pass n f (omega arith) t l)
+  | yes p ↦ let r = last-pass n f p in (
+    r .at,
+    r .below,
+    λ t l ne. elim (decLt t (r .at)) [ yes c ↦ none-pass (r .at) f (let x = r .left in omega arith) t c | no c ↦ r .above t (omega arith) l ],
+  )
+]
+
 pub some-false : (n : ℕ) (p : ℕ → Bool) → some n p ≡ false → (i : ℕ) → i < n → p i ≡ false
 unfolding some
 some-false zero p e i l = absurd (not-suc-le-zero l)
@@ -70,3 +83,12 @@ pub false-some : (n : ℕ) (p : ℕ → Bool) → ((i : ℕ) → i < n → p i �
 unfolding some
 false-some zero p h = refl
 false-some (suc n) p h = rw (h n (lt-suc-self n)) (false-some n p (λ i l. h i (le-step l)))
+
+pub some-true : (n : ℕ) (p : ℕ → Bool) → some n p ≡ true → (i : ℕ) × (i < n) × (p i ≡ true)
+unfolding some
+some-true zero p e = absurd (false≢true e)
+some-true (suc n) p e = go (p n) refl e (some-true n p)
+  where
+    go : (b : Bool) → p n ≡ b → (b || some n p) ≡ true → (some n p ≡ true → (i : ℕ) × (i < n) × (p i ≡ true)) → (i : ℕ) × (i < suc n) × (p i ≡ true)
+    go true q e ih = (n, lt-suc-self n, q)
+    go false q e ih = let (i, l, r) = ih e in (i, le-step l, r)

@@ -14,3 +14,6 @@ pub mod Prime
 pub mod Stripes
 pub mod Theorems
 pub mod Table
+pub mod Candidate
+pub mod Test
+pub mod Numbers

@@ -16,10 +16,13 @@ use Rattle.parity.specs.Equations.{amountH, amountD, H, D, Holds}
 use Rattle.parity.specs.Stripe.{byte, lane, Stripe, Valid, brokenRows, brokenDiagonals, Intact}
 use Rattle.parity.specs.Presence.{present, absences, differs, differing, DifferIn, Agrees}
 use Rattle.parity.specs.Theorems.{Distance, AtMostOne, ExactlyOne, NeverOne, AbsentUnread, OneWrong, IntactIsValid}
+use Rattle.parity.specs.Numbers.{Numbers}
 use Rattle.parity.proofs.Xor.{⊕-self, ⊕-eq}
 use Rattle.parity.proofs.Count.{none-pass, all-fail, Last, last-pass, some-false, false-some}
 use Rattle.parity.proofs.Columns.{not-false, same-column, column-same, other-way, Cover, cover}
 use Rattle.parity.proofs.Prime.{inverse}
+use Rattle.parity.proofs.Table.{table}
+use Rattle.parity.proofs.Numbers.{numbers-given}
 use Rattle.parity.proofs.Balance.{Frame, Served}
 use Rattle.parity.proofs.Bytes.{stripe-ext}
 use Rattle.parity.proofs.Stripes.{Alike, stripe-determined, stripe-completed, stripe-second}
@@ -218,3 +221,8 @@ intact-is-valid m k b s st = (
     diagonals = breaks-none m k b s (λ l i. amountD m k (lane m b s l) i) (λ l i hl hi. ap (λ x. x ⊕ D m k (lane m b s l) i) (v .lanes l hl .d i hi) ∙ ⊕-self _);
   },
 )
+
+-- ---- the numbers
+
+pub numbers-hold : Numbers
+numbers-hold = numbers-given table at-most-one

@@ -1,4 +1,4 @@
--- What follows from the equations, for every shape. Each statement is a type; the proof of the same name stands in proofs/Theorems.
+-- What follows from the equations, for every shape. Each statement is a type, which proofs/Table (for Table) and proofs/Theorems inhabit.
 use mathlib.Core.Path.{_≡_}
 use mathlib.Core.Logic.{_≢_, _↔_}
 use mathlib.Core.Bool.{Bool, true}

@@ -1,0 +1,4 @@
+pub mod Refusals
+pub mod Shapes
+pub mod Maps
+pub mod Shows

@@ -1,0 +1,25 @@
+use mathlib.Core.Path.{_≡_}
+use mathlib.Core.List.{List, [], _∷_}
+use Prim.Native.Nat.{ℕ}
+use Rattle.parity.specs.Shape.{Shape, columnLength}
+use Rattle.evenodd.specs.declared.shapes.Judged.{Judged}
+use Rattle.evenodd.specs.declared.shapes.Judged.the-variants.{Good, Refused}
+use Rattle.evenodd.specs.declared.shapes.Refusal.{Refusal}
+use Rattle.evenodd.specs.declared.shapes.Refusal.the-variants as refusal
+use Rattle.evenodd.specs.Refusals.{Verdict, pass, refuse, Rule, Gives}
+
+-- the shape check's rules: each operation's rules begin with them
+abbrev pub shapeRules : ℕ → ℕ → ℕ → List Rule
+shapeRules m k b = record { condition = Shape m k b → ⊥; refusal = refusal.Shape } ∷ []
+
+abbrev pub judged : Judged → Verdict
+judged (Good c) = pass
+judged (Refused r) = refuse r
+
+abbrev pub goodColumn : ℕ → ℕ → Judged → Type 0
+goodColumn m b (Good c) = c ≡ columnLength m b
+goodColumn m b (Refused r) = Unit {0}
+
+pub record Judges (m k b : ℕ) (r : Judged) : Type 0 where
+  pub told : Gives (shapeRules m k b) (judged r)
+  pub column : goodColumn m b r

@@ -1,0 +1,15 @@
+// Stripes kept in the EVENODD code: encode, check, show, restore and mend. Nothing here asks anything of its caller: bad input is
+// refused by number, and a refused call changes no byte that was lent.
+mod maps;
+mod shapes;
+mod showing;
+
+pub use maps::Gaps;
+pub use maps::Map;
+pub use maps::Marked;
+pub use shapes::Judged;
+pub use shapes::Refusal;
+pub use shapes::judge;
+pub use showing::Place;
+pub use showing::place_of;
+pub use showing::show;

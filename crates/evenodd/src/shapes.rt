@@ -1,0 +1,68 @@
+// Refusals, and the shape check.
+ghost use mathlib.Core.Path.{_≡_};
+ghost use Rattle.evenodd.specs.Refusals.{numberOf};
+ghost use Rattle.evenodd.specs.Shapes.{Judges};
+
+// Why a call is refused. Every call of the shelf refuses with one of these, and each has one number.
+pub enum Refusal {
+    Shape,
+    StripeLength,
+    BenchLength,
+    Ambiguous,
+    Contradicted,
+    Unmendable,
+    NoSuchColumn,
+    Malformed,
+    StrayColumn,
+    TooLong,
+}
+
+impl Refusal {
+    // The refusal's number, 1 to 10.
+    pub fn number(self) -> u8
+        ensures { λ r. ⌜ r ≡ numberOf self ⌝ }
+    {
+        match self {
+            Refusal::Shape => 1,
+            Refusal::StripeLength => 2,
+            Refusal::BenchLength => 3,
+            Refusal::Ambiguous => 4,
+            Refusal::Contradicted => 5,
+            Refusal::Unmendable => 6,
+            Refusal::NoSuchColumn => 7,
+            Refusal::Malformed => 8,
+            Refusal::StrayColumn => 9,
+            Refusal::TooLong => 10,
+        }
+    }
+}
+
+// What the shape check says: the bytes of a column, of a shape that keeps the rules; or the refusal.
+pub enum Judged {
+    Good { column: usize },
+    Refused(Refusal),
+}
+
+// Judges three numbers, whatever they are.
+pub fn judge(m: usize, k: usize, b: usize) -> Judged
+    ensures { λ r. ⌜ Judges m k b r ⌝ }
+{
+    if !parity::is_accepted(m) {
+        return Judged::Refused(Refusal::Shape);
+    }
+    if k == 0 {
+        return Judged::Refused(Refusal::Shape);
+    }
+    if m < k {
+        return Judged::Refused(Refusal::Shape);
+    }
+    if b == 0 {
+        return Judged::Refused(Refusal::Shape);
+    }
+    if 4096 < b {
+        return Judged::Refused(Refusal::Shape);
+    }
+    Judged::Good {
+        column: (m - 1) * b,
+    }
+}
