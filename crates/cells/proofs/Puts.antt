@@ -1,0 +1,105 @@
+-- Laws of `Put` and `Added`.
+--   put-none, put-one   nothing put, and one byte more
+--   put-next            a second run after the first, which may overlap it
+--   put-same            the same bytes by another name
+--   put-part, put-added a lent part that came back with other bytes, or with something added
+--   put-all             the whole run became another one
+--   put-then-added      a run that was set, and then added to
+--   added-put           a run added to from its start
+--   added-none, added-both, added-same
+use mathlib.Core.Path.{_≡_, refl, sym, ap, _∙_}
+use mathlib.Core.List.{List}
+use Prim.Native.Nat.{ℕ, _+_, _-_, _≤_, _<_}
+use native.Mathlib.Omega.{arith}
+use lib.ListN.{length, getD, set, length-set, length-drop, List·getD-eq-default}
+use lib.Seq.{getD-set-same, getD-set-other, length-take-le}
+use borrow.Author.Count.{below-more}
+use borrow.Rule.Slice.PartMut.{putMid}
+use Rattle.parity.specs.Xor.{_⊕_}
+use Rattle.parity.proofs.Xor.{⊕-assoc, ⊕-zero}
+use Rattle.cells.specs.Runs.{Added, Put}
+use Rattle.cells.proofs.Parts.{part, part-at, by-order, mid-length, mid-before, mid-inside, mid-after}
+
+pub put-none : (s : List ℕ) (at : ℕ) (f : ℕ → ℕ) → Put s s at 0 f
+put-none s at f = record { size = refl; inside = λ l h. absurd (omega arith); before = λ p h. refl; after = λ p h. refl }
+
+pub put-one : (s t : List ℕ) (at l v : ℕ) (f : ℕ → ℕ) → at + l < length t → v ≡ f l → Put s t at l f → Put s (set t (at + l) v) at (l + 1) f
+put-one s t at l v f room e p = record {
+  size = length-set t (at + l) v ∙ p .size;
+  inside = below-more (λ (x : ℕ). getD (set t (at + l) v) (at + x) 0 ≡ f x) l
+      (λ x h. getD-set-other t (at + l) (at + x) v 0 (λ q. absurd (omega arith)) ∙ p .inside x h)
+      (getD-set-same t (at + l) v 0 room ∙ e);
+  before = λ x h. getD-set-other t (at + l) x v 0 (λ q. absurd (omega arith)) ∙ p .before x h;
+  after = λ x h. getD-set-other t (at + l) x v 0 (λ q. absurd (omega arith)) ∙ p .after x (omega arith);
+}
+
+pub put-next : (s t u : List ℕ) (at j x n : ℕ) (f g : ℕ → ℕ) → x ≤ j → j ≤ x + n → Put s t at j f → Put t u (at + x) n (λ l. g (x + l))
+    → ((l : ℕ) → x ≤ l → l < x + n → g l ≡ f l) → Put s u at (x + n) f
+put-next s t u at j x n f g h₁ h₂ p q so = record {
+  size = q .size ∙ p .size;
+  inside = λ l h. by-order (getD u (at + l) 0 ≡ f l) l x
+      (λ b. q .before (at + l) (omega arith) ∙ p .inside l (omega arith))
+      (λ b.
+      let e : at + l ≡ at + x + (l - x) = omega arith in
+      let d : x + (l - x) ≡ l = omega arith in
+      ap (λ (v : ℕ). getD u v 0) e ∙ q .inside (l - x) (omega arith) ∙ ap g d ∙ so l b h);
+  before = λ v h. q .before v (omega arith) ∙ p .before v h;
+  after = λ v h. q .after v (omega arith) ∙ p .after v (omega arith);
+}
+
+pub put-same : {s t : List ℕ} {at n : ℕ} {f g : ℕ → ℕ} → Put s t at n f → ((l : ℕ) → l < n → f l ≡ g l) → Put s t at n g
+put-same p so = record { size = p .size; inside = λ l h. p .inside l h ∙ so l h; before = p .before; after = p .after }
+
+pub put-part : (w y : List ℕ) (at n : ℕ) (f : ℕ → ℕ) → at + n ≤ length w → length y ≡ n → ((l : ℕ) → l < n → getD y l 0 ≡ f l) → Put w (putMid at n w y) at n f
+put-part w y at n f room l so = record {
+  size = mid-length w y at n room l;
+  inside = λ j h. mid-inside w y at n room l j h ∙ so j h;
+  before = mid-before w y at n room l;
+  after = mid-after w y at n room l;
+}
+
+-- the whole run became another one
+pub put-all : (x z y : List ℕ) (f : ℕ → ℕ) → length z ≡ length x → y ≡ z → ((l : ℕ) → l < length x → getD z l 0 ≡ f l) → Put x y 0 (length x) f
+put-all x z y f size e so = record {
+  size = ap length e ∙ size;
+  inside = λ l h. let q : 0 + l ≡ l = omega arith in ap (λ (v : ℕ). getD y v 0) q ∙ ap (λ (v : List ℕ). getD v l 0) e ∙ so l h;
+  before = λ p h. absurd (omega arith);
+  after = λ p h. List·getD-eq-default y 0 {n = p} (omega (arith, ap length e)) ∙ sym (List·getD-eq-default x 0 {n = p} (omega arith));
+}
+
+pub added-none : (x : List ℕ) (f : ℕ → ℕ) → ((l : ℕ) → l < length x → f l ≡ 0) → Added x x f
+added-none x f so = record { size = refl; byte = λ l h. sym (ap (λ (n : ℕ). getD x l 0 ⊕ n) (so l h) ∙ ⊕-zero (getD x l 0)) }
+
+pub added-both : {x y z : List ℕ} {f g : ℕ → ℕ} → Added x y f → Added y z g → Added x z (λ l. f l ⊕ g l)
+added-both {x} {f = f} {g = g} p q = record {
+  size = q .size ∙ p .size;
+  byte = λ l h. q .byte l (rw (p .size) h) ∙ ap (λ (n : ℕ). n ⊕ g l) (p .byte l h) ∙ ⊕-assoc (getD x l 0) (f l) (g l);
+}
+
+pub added-same : {x y : List ℕ} {f g : ℕ → ℕ} → Added x y f → ((l : ℕ) → l < length x → f l ≡ g l) → Added x y g
+added-same {x} p so = record { size = p .size; byte = λ l h. p .byte l h ∙ ap (λ (n : ℕ). getD x l 0 ⊕ n) (so l h) }
+
+-- a run that was set, and then added to
+pub put-then-added : {x y z : List ℕ} {f g : ℕ → ℕ} → Put x y 0 (length x) f → Added y z g → Put x z 0 (length x) (λ l. f l ⊕ g l)
+put-then-added {x} {y} {z} {f} {g} p a = record {
+  size = a .size ∙ p .size;
+  inside = λ l h.
+      let q : 0 + l ≡ l = omega arith in
+      ap (λ (v : ℕ). getD z v 0) q ∙ a .byte l (rw (p .size) h) ∙ ap (λ (v : ℕ). v ⊕ g l) (ap (λ (v : ℕ). getD y v 0) (sym q) ∙ p .inside l h);
+  before = λ v h. absurd (omega arith);
+  after = λ v h. List·getD-eq-default z 0 {n = v} (omega (arith, a .size, p .size)) ∙ sym (List·getD-eq-default x 0 {n = v} (omega arith));
+}
+
+pub added-put : {x y : List ℕ} {f : ℕ → ℕ} → Put x y 0 (length x) (λ l. getD x l 0 ⊕ f l) → Added x y f
+added-put {x} {y} {f} p = record {
+  size = p .size;
+  byte = λ l h. let e : 0 + l ≡ l = omega arith in ap (λ (v : ℕ). getD y v 0) (sym e) ∙ p .inside l h;
+}
+
+pub put-added : (w y : List ℕ) (at e : ℕ) (f : ℕ → ℕ) → at ≤ e → e ≤ length w → Added (part w at e) y f
+    → Put w (putMid at (e - at) w y) at (e - at) (λ l. getD w (at + l) 0 ⊕ f l)
+put-added w y at e f order room a = put-part w y at (e - at) (λ l. getD w (at + l) 0 ⊕ f l) (omega arith) (a .size ∙ size) (λ l h.
+    a .byte l (rw size h) ∙ ap (λ (n : ℕ). n ⊕ f l) (part-at w at e l h))
+  where
+    size : length (part w at e) ≡ e - at
+    size = length-take-le (e - at) _ (simp length-drop (omega arith))

@@ -1,0 +1,23 @@
+-- What becomes of a run of bytes.
+--   Added x y f      y is x with f 0, f 1, … added
+--   Put s t at n f   t is s, but that the n bytes from `at` on are f 0, f 1, …
+--   Tells r n f      r is 0 exactly when f 0 to f (n - 1) are
+use mathlib.Core.Path.{_≡_}
+use mathlib.Core.List.{List}
+use Prim.Native.Nat.{ℕ, _+_, _≤_, _<_}
+use lib.ListN.{length, getD}
+use Rattle.parity.specs.Xor.{_⊕_}
+
+pub record Added (x y : List ℕ) (f : ℕ → ℕ) : Type 0 where
+  pub size : length y ≡ length x
+  pub byte : (l : ℕ) → l < length x → getD y l 0 ≡ getD x l 0 ⊕ f l
+
+pub record Put (s t : List ℕ) (at n : ℕ) (f : ℕ → ℕ) : Type 0 where
+  pub size : length t ≡ length s
+  pub inside : (l : ℕ) → l < n → getD t (at + l) 0 ≡ f l
+  pub before : (p : ℕ) → p < at → getD t p 0 ≡ getD s p 0
+  pub after : (p : ℕ) → at + n ≤ p → getD t p 0 ≡ getD s p 0
+
+pub record Tells (r n : ℕ) (f : ℕ → ℕ) : Type 0 where
+  pub none : r ≡ 0 → (l : ℕ) → l < n → f l ≡ 0
+  pub all : ((l : ℕ) → l < n → f l ≡ 0) → r ≡ 0

@@ -1,0 +1,56 @@
+// Runs of bytes: added (exclusive or), copied, cleared and tested, byte for byte.
+ghost use mathlib.Core.Path.{_≡_};
+ghost use Prim.Native.Nat.{ℕ, _+_, _≤_, _<_};
+ghost use lib.ListN.{length, getD};
+ghost use Rattle.parity.specs.Xor.{_⊕_};
+ghost use Rattle.cells.specs.Runs.{Added, Put, Tells};
+
+// Adds cell to acc.
+pub fn xor_into(acc: &mut [u8], cell: &[u8])
+    requires { ⌜ length (now cell) ≡ length (now acc) ⌝ }
+    ensures { λ _. ⌜ Added (now (acc .entry)) (now (acc .exit)) (λ l. getD (now (cell .entry)) l 0) ⌝ }
+{
+    for j in 0..acc.len() {
+        acc[j] = acc[j] ^ cell[j];
+    }
+}
+
+// Clears acc.
+pub fn zero(acc: &mut [u8])
+    ensures { λ _. ⌜ Put (now (acc .entry)) (now (acc .exit)) 0 (length (now (acc .entry))) (λ l. 0) ⌝ }
+{
+    for j in 0..acc.len() {
+        acc[j] = 0;
+    }
+}
+
+// Copies src to dst.
+pub fn copy_into(dst: &mut [u8], src: &[u8])
+    requires { ⌜ length (now src) ≡ length (now dst) ⌝ }
+    ensures { λ _. ⌜ now (dst .exit) ≡ now (src .entry) ⌝ }
+{
+    for j in 0..dst.len() {
+        dst[j] = src[j];
+    }
+}
+
+// The bytes of x or-ed together: 0 exactly when each is.
+pub fn any(x: &[u8]) -> u8
+    ensures { λ r. ⌜ Tells r (length (now (x .entry))) (λ l. getD (now (x .entry)) l 0) ⌝ }
+{
+    let mut o: u8 = 0;
+    for j in 0..x.len() {
+        o = o | x[j];
+    }
+    o
+}
+
+// Adds the n bytes at `from` to the n bytes at `at`, none of which is written before it is read.
+pub fn add_within(w: &mut [u8], at: usize, from: usize, n: usize)
+    requires { ⌜ (at + n ≤ length (now w)) × (from + n ≤ length (now w)) × (from < at → from + n ≤ at) ⌝ }
+    ensures { λ _. ⌜ Put (now (w .entry)) (now (w .exit)) at n (λ l. getD (now (w .entry)) (at + l) 0 ⊕ getD (now (w .entry)) (from + l) 0) ⌝ }
+{
+    for l in 0..n {
+        w[at + l] = w[at + l] ^ w[from + l];
+    }
+}

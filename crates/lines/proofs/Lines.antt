@@ -1,0 +1,107 @@
+-- Laws of lines: the row of a line, one column more, and a cell read from a lent column.
+--   up-around, up-straight   the row above, as the code finds it
+--   back-none, back-back     no row up; one step up after another
+--   real-in, real-out        rows below m - 1 are the lane's, the others zero
+--   cell-read                the lanes of a cell, read from a part of the column, which is a part of the stripe
+--   span-none, span-more     a span of no columns, and of one column more
+--   column-is, column-most, cell-room   a cell lies within its column, and a column is not long
+--   slant-in, slant-next, row-next     what a slant adds up to, column by column
+use mathlib.Core.Path.{_≡_, refl, sym, ap, ap₂, _∙_}
+use mathlib.Core.Bool.{cond}
+use mathlib.Core.List.{List}
+use Prim.Native.Nat.{ℕ, zero, suc, _+_, _*_, _-_, _%_, _≤_, _<_}
+use native.Mathlib.Nat.{mod-lt, mod-eq-of-lt, add-mod-right, mod-add-mod, mul-le-mul, mul-le-mul-left, le-trans}
+use native.Mathlib.Numerals.{add-one}
+use native.Mathlib.Omega.{arith}
+use lib.ListN.{getD}
+use borrow.Author.Tests.{lt-ltb, le-ltb}
+use Rattle.parity.specs.Xor.{_⊕_}
+use Rattle.parity.specs.Sum.{sum}
+use Rattle.parity.specs.Shape.{columnLength}
+use Rattle.parity.specs.Equations.{Lane, back}
+use Rattle.parity.specs.Stripe.{byte, lane}
+use Rattle.parity.proofs.Xor.{⊕-assoc, ⊕-self}
+use Rattle.cells.proofs.Parts.{part, part-at, parts-end}
+use Rattle.lines.specs.Lines.{real, line, span, Sized}
+
+pub up-around : (m e r : ℕ) → r < e → e ≤ m → r + m - e ≡ back m r e
+unfolding back
+up-around m e r h l =
+    let q : r + m - e ≡ r + (m - e) = omega arith in
+    q ∙ sym (mod-eq-of-lt (omega arith))
+
+pub up-straight : (m e r : ℕ) → e ≤ r → r < m → r - e ≡ back m r e
+unfolding back
+up-straight m e r h l =
+    let q : r + (m - e) ≡ r - e + m = omega arith in
+    sym (ap (λ (x : ℕ). x % m) q ∙ add-mod-right (r - e) m ∙ mod-eq-of-lt (omega arith))
+
+pub back-none : (m i : ℕ) → i < m → back m i 0 ≡ i
+unfolding back
+back-none m i h = let q : i + (m - 0) ≡ i + m = omega arith in ap (λ (x : ℕ). x % m) q ∙ add-mod-right i m ∙ mod-eq-of-lt h
+
+pub back-back : (m i x y : ℕ) → x + y ≤ m → back m (back m i x) y ≡ back m i (x + y)
+unfolding back
+back-back m i x y h =
+    let q : i + (m - x) + (m - y) ≡ i + (m - (x + y)) + m = omega arith in
+    mod-add-mod (i + (m - x)) m (m - y) ∙ ap (λ (x : ℕ). x % m) q ∙ add-mod-right (i + (m - (x + y))) m
+
+pub back-lt : (m i x : ℕ) → 0 < m → back m i x < m
+unfolding back
+back-lt m i x h = mod-lt (i + (m - x)) h
+
+module _ (m : ℕ) (a : Lane) where
+  pub real-in : (r t : ℕ) → r < m - 1 → real m a r t ≡ a r t
+  unfolding real
+  real-in r t h = rw (lt-ltb r (m - 1) h)
+
+  pub real-out : (r t : ℕ) → m - 1 ≤ r → real m a r t ≡ 0
+  unfolding real
+  real-out r t h = rw (le-ltb r (m - 1) h)
+
+  pub span-none : (e i t : ℕ) → span m a e i t t ≡ 0
+  unfolding span
+  span-none e i t = ⊕-self (line m a e i t)
+
+  line-more : (e i t : ℕ) → line m a e i t ⊕ real m a (back m i (e * t)) t ≡ line m a e i (t + 1)
+  unfolding line sum
+  line-more e i t = ap (λ (n : ℕ). line m a e i n) (sym (add-one t))
+
+  pub span-more : (e i x t : ℕ) → span m a e i x t ⊕ real m a (back m i (e * t)) t ≡ span m a e i x (t + 1)
+  unfolding span
+  span-more e i x t = ⊕-assoc (line m a e i x) (line m a e i t) _ ∙ ap (λ (y : ℕ). line m a e i x ⊕ y) (line-more e i t)
+
+pub cell-read : (s : List ℕ) (m b c t r j n : ℕ) → c ≡ columnLength m b → r < m - 1 → r * b + j + n ≤ c → (l : ℕ) → l < n
+    → getD (part (part s (t * c) (t * c + c)) (r * b + j) (r * b + j + n)) l 0 ≡ real m (lane m b s (j + l)) r t
+unfolding byte
+cell-read s m b c t r j n column h room l hl =
+    let q : t * c + (r * b + j + l) ≡ t * c + (r * b + (j + l)) = omega arith in
+    part-at (part s (t * c) (t * c + c)) (r * b + j) (r * b + j + n) l (omega arith)
+    ∙ part-at s (t * c) (t * c + c) (r * b + j + l) (omega arith)
+    ∙ ap (λ (p : ℕ). getD s p 0) q
+    ∙ ap (λ (p : ℕ). getD s (t * p + (r * b + (j + l))) 0) column
+    ∙ sym (real-in m (lane m b s (j + l)) r t h)
+
+-- a cell lies within its column, and a column is not long
+module _ (m b c : ℕ) (z : Sized m b c) where
+  pub column-is : c ≡ (m - 1) * b
+  unfolding columnLength
+  column-is = z .column
+
+  pub column-most : c ≤ 516096
+  column-most = let q : (m - 1) * b ≤ 126 * 4096 = mul-le-mul {n₂ = 126} {m₂ = 4096} (omega (arith, z .few)) (z .short) in omega (arith, column-is)
+
+  pub cell-room : (r j n : ℕ) → r < m - 1 → j + n ≤ b → r * b + j + n ≤ c
+  cell-room r j n h k = omega (arith, column-is, parts-end b h)
+
+-- what a slant adds up to, column by column
+module _ (e y m : ℕ) (within : e * y ≤ m) where
+  pub slant-in : (t : ℕ) → t ≤ y → e * t ≤ m
+  slant-in t h = le-trans (mul-le-mul-left e h) within
+
+  pub slant-next : (t : ℕ) → t < y → e * t + e ≤ m
+  slant-next t h = let q : e * (t + 1) ≤ m = slant-in (t + 1) (omega arith) in omega (arith, q)
+
+-- the row of a line, one column on
+pub row-next : (m i e t : ℕ) → e * t + e ≤ m → back m (back m i (e * t)) e ≡ back m i (e * (t + 1))
+row-next m i e t h = back-back m i (e * t) e h ∙ ap (back m i) (omega arith)

@@ -1,0 +1,38 @@
+-- Lines of cells in a byte lane, as the loops go along them.
+--   real m a r t        the byte in row r of column t; row m - 1 is zero
+--   line m a e i n      the sum of line i over the first n columns: with slant e = 0 it is row i, with e = 1 diagonal i
+--   span m a e i x y    the same over the columns from x up to y: the sum over all below y without that over all below x
+--   Sized m b c         the numbers of a shape, as far as loops need them, with c the bytes of a column
+--   Crosses …           line i of slant e can be followed through the columns from x up to y of a stripe of n bytes
+use mathlib.Core.Path.{_≡_}
+use mathlib.Core.Bool.{cond}
+use Prim.Native.Nat.{ℕ, _-_, _*_, _≤_, _<_}
+use lib.Dec.{ltb}
+use Rattle.parity.specs.Xor.{_⊕_}
+use Rattle.parity.specs.Sum.{sum}
+use Rattle.parity.specs.Shape.{columnLength}
+use Rattle.parity.specs.Equations.{Lane, back}
+
+unfoldable pub real : ℕ → Lane → ℕ → ℕ → ℕ
+real m a r t = cond (ltb r (m - 1)) (a r t) 0
+
+unfoldable pub line : ℕ → Lane → ℕ → ℕ → ℕ → ℕ
+line m a e i n = sum n (λ t. real m a (back m i (e * t)) t)
+
+unfoldable pub span : ℕ → Lane → ℕ → ℕ → ℕ → ℕ → ℕ
+span m a e i x y = line m a e i x ⊕ line m a e i y
+
+pub record Sized (m b c : ℕ) : Type 0 where
+  pub big : 1 < m
+  pub few : m ≤ 127
+  pub filled : 1 ≤ b
+  pub short : b ≤ 4096
+  pub column : c ≡ columnLength m b
+
+pub record Crosses (m c n e i x y : ℕ) : Type 0 where
+  pub slant : e ≤ 1
+  pub inside : i < m
+  pub order : x ≤ y
+  pub within : e * y ≤ m
+  pub most : y ≤ 129
+  pub columns : y * c ≤ n
