@@ -3,7 +3,7 @@
 --   back-none, back-back     no row up; one step up after another
 --   real-in, real-out        rows below m - 1 are the lane's, the others zero
 --   cell-read                the lanes of a cell, read from a part of the column, which is a part of the stripe
---   span-none, span-more     a span of no columns, and of one column more
+--   span-none, span-more, span-line   a span of no columns, of one column more, and from column 0 on
 --   column-is, column-most, cell-room   a cell lies within its column, and a column is not long
 --   slant-in, slant-next, row-next     what a slant adds up to, column by column
 use mathlib.Core.Path.{_≡_, refl, sym, ap, ap₂, _∙_}
@@ -20,7 +20,7 @@ use Rattle.parity.specs.Sum.{sum}
 use Rattle.parity.specs.Shape.{columnLength}
 use Rattle.parity.specs.Equations.{Lane, back}
 use Rattle.parity.specs.Stripe.{byte, lane}
-use Rattle.parity.proofs.Xor.{⊕-assoc, ⊕-self}
+use Rattle.parity.proofs.Xor.{⊕-assoc, ⊕-self, zero-⊕}
 use Rattle.cells.proofs.Parts.{part, part-at, parts-end}
 use Rattle.lines.specs.Lines.{real, line, span, Sized}
 
@@ -62,6 +62,11 @@ module _ (m : ℕ) (a : Lane) where
   pub span-none : (e i t : ℕ) → span m a e i t t ≡ 0
   unfolding span
   span-none e i t = ⊕-self (line m a e i t)
+
+  -- a span from column 0 on is a line
+  pub span-line : (e i n : ℕ) → span m a e i 0 n ≡ line m a e i n
+  unfolding span line sum
+  span-line e i n = zero-⊕ (line m a e i n)
 
   line-more : (e i t : ℕ) → line m a e i t ⊕ real m a (back m i (e * t)) t ≡ line m a e i (t + 1)
   unfolding line sum

@@ -1,5 +1,5 @@
 -- Laws of `count` and `some`.
---   count-cong       equal tests, equal counts
+--   count-cong, some-cong   equal tests, equal answers
 --   none-pass        a count of zero: every number below n fails
 --   all-fail         and the other way round
 --   last-pass        the highest number below n that passes, and the count of those below it
@@ -68,6 +68,11 @@ one-pass n f pos few = elim (decLt 0 (count n f)) [
     λ t l ne. elim (decLt t (r .at)) [ yes c ↦ none-pass (r .at) f (let x = r .left in omega arith) t c | no c ↦ r .above t (omega arith) l ],
   )
 ]
+
+pub some-cong : (n : ℕ) {f g : ℕ → Bool} → ((t : ℕ) → t < n → f t ≡ g t) → some n f ≡ some n g
+unfolding some
+some-cong zero h = refl
+some-cong (suc n) h = ap₂ _||_ (h n (lt-suc-self n)) (some-cong n (λ t l. h t (le-step l)))
 
 pub some-false : (n : ℕ) (p : ℕ → Bool) → some n p ≡ false → (i : ℕ) → i < n → p i ≡ false
 unfolding some

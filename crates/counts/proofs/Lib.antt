@@ -1,0 +1,2 @@
+pub mod Folds
+pub mod Amounts

@@ -1,0 +1,51 @@
+-- The lines that the loops follow, and the sums that the equations ask for.
+--   H-line      H of row i is line i of slant 0
+--   S-line      S is line m - 1 of slant 1
+--   D-line      D of row i is S plus line i of slant 1
+--   line-same   a line over the first n columns depends on the bytes of those columns alone
+--   span-same   the same of a span
+use mathlib.Core.Path.{_≡_, sym, ap, ap₂, _∙_}
+use mathlib.Core.Bool.{cond}
+use Prim.Native.Nat.{ℕ, _*_, _-_, _≤_, _<_}
+use native.Mathlib.Nat.{zero-mul, one-mul}
+use native.Mathlib.Omega.{arith}
+use lib.Dec.{ltb, ltb→lt}
+use borrow.Author.Tests.{lt-ltb}
+use Rattle.parity.specs.Xor.{_⊕_}
+use Rattle.parity.specs.Sum.{sum}
+use Rattle.parity.specs.Equations.{Lane, cell, back, H, S, D}
+use Rattle.parity.proofs.Sum.{sum-cong, sum-cut}
+use Rattle.parity.proofs.Cells.{diagonal, S-diagonal, cell-imaginary, when-same}
+use Rattle.lines.specs.Lines.{real, line, span}
+use Rattle.lines.proofs.Lines.{back-none}
+
+module _ (m k : ℕ) (few : k ≤ m) (a : Lane) where
+  cell-line : (i t : ℕ) → t < k → cell m k a i t ≡ real m a i t
+  unfolding cell real
+  cell-line i t h = rw (lt-ltb t k h)
+
+  pub H-line : (i : ℕ) → i < m → H m k a i ≡ line m a 0 i k
+  unfolding H line
+  H-line i h =
+      sum-cut k m few (λ t l _. cell-imaginary m k a i t l)
+      ∙ sum-cong k (λ t l. cell-line i t l ∙ ap (λ (r : ℕ). real m a r t) (sym (ap (back m i) (zero-mul t) ∙ back-none m i h)))
+
+  diagonal-line : (i : ℕ) → diagonal m k a i ≡ line m a 1 i k
+  unfolding diagonal line
+  diagonal-line i =
+      sum-cut k m few (λ t l _. cell-imaginary m k a (back m i t) t l)
+      ∙ sum-cong k (λ t l. cell-line (back m i t) t l ∙ ap (λ (x : ℕ). real m a (back m i x) t) (sym (one-mul t)))
+
+  pub S-line : 1 < m → S m k a ≡ line m a 1 (m - 1) k
+  S-line big = S-diagonal m k a big ∙ diagonal-line (m - 1)
+
+  pub D-line : (i : ℕ) → D m k a i ≡ S m k a ⊕ line m a 1 i k
+  unfolding D diagonal
+  D-line i = ap (λ (x : ℕ). S m k a ⊕ x) (diagonal-line i)
+
+module _ (m n : ℕ) (a b : Lane) (same : (i t : ℕ) → i < m - 1 → t < n → a i t ≡ b i t) where
+  pub line-same : (e i : ℕ) → line m a e i n ≡ line m b e i n
+  unfolding line real
+  line-same e i = sum-cong n (λ t l.
+      let r = back m i (e * t) in
+      when-same (ltb r (m - 1)) (a r t) (b r t) (λ h. same r t (ltb→lt r (m - 1) h) l))
