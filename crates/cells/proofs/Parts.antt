@@ -3,13 +3,13 @@
 --   part-at         a byte of a part is one of the list
 --   parts-end       part t of k parts of c bytes each ends within them
 --   mid-…           `putMid a n w y`: what w becomes when the n bytes from a on were lent, and came back as y
-use mathlib.Core.Path.{_≡_, refl, sym, ap, _∙_, subst}
-use mathlib.Core.List.{List, [], _∷_, _++_}
-use Prim.Native.Nat.{ℕ, zero, suc, _+_, _*_, _-_, _≤_, _<_}
+use mathlib.Core.Path.{_≡_, sym, ap, _∙_, subst}
+use mathlib.Core.List.{List, _++_}
+use Prim.Native.Nat.{ℕ, _+_, _*_, _-_, _≤_, _<_}
 use native.Mathlib.Nat.{suc-mul, mul-le-mul-right}
 use native.Mathlib.Decide.{decLt}
 use native.Mathlib.Omega.{arith}
-use lib.ListN.{length, take, drop, getD, List·getD-append, length-append, length-drop, length-take}
+use lib.ListN.{length, take, drop, getD, List·getD-append, length-append, length-drop}
 use lib.Seq.{getD-take, getD-drop, length-take-le, getD-append-add}
 use borrow.Rule.Slice.PartMut.{putMid}
 

@@ -8,8 +8,7 @@ use native.Mathlib.Omega.{arith}
 use lib.Dec.{eqb}
 use lib.ListN.{getD}
 use Rattle.parity.specs.Xor.{_⊕_}
-use Rattle.parity.specs.Sum.{count, some}
-use Rattle.parity.specs.Equations.{amountH, amountD, H, S, D}
+use Rattle.parity.specs.Equations.{amountH, amountD, H}
 use Rattle.parity.specs.Stripe.{lane, brokenRows, brokenDiagonals}
 use Rattle.parity.proofs.Xor.{xor}
 use Rattle.parity.proofs.Count.{count-cong, some-cong}

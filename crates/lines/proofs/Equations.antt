@@ -4,19 +4,16 @@
 --   D-line      D of row i is S plus line i of slant 1
 --   line-same   a line over the first n columns depends on the bytes of those columns alone
 --   span-same   the same of a span
-use mathlib.Core.Path.{_≡_, sym, ap, ap₂, _∙_}
-use mathlib.Core.Bool.{cond}
+use mathlib.Core.Path.{_≡_, sym, ap, _∙_}
 use Prim.Native.Nat.{ℕ, _*_, _-_, _≤_, _<_}
 use native.Mathlib.Nat.{zero-mul, one-mul}
-use native.Mathlib.Omega.{arith}
 use lib.Dec.{ltb, ltb→lt}
 use borrow.Author.Tests.{lt-ltb}
 use Rattle.parity.specs.Xor.{_⊕_}
-use Rattle.parity.specs.Sum.{sum}
 use Rattle.parity.specs.Equations.{Lane, cell, back, H, S, D}
 use Rattle.parity.proofs.Sum.{sum-cong, sum-cut}
 use Rattle.parity.proofs.Cells.{diagonal, S-diagonal, cell-imaginary, when-same}
-use Rattle.lines.specs.Lines.{real, line, span}
+use Rattle.lines.specs.Lines.{real, line}
 use Rattle.lines.proofs.Lines.{back-none}
 
 module _ (m k : ℕ) (few : k ≤ m) (a : Lane) where

@@ -4,7 +4,7 @@
 --   Served m k u v         columns u < v that can be told from the others
 --   But m k u v a b        the lanes are the same but in columns u and v
 --   at-most-one, at-least-one
-use mathlib.Core.Path.{_≡_, refl, sym, ap, ap₂, _∙_, fun-ext}
+use mathlib.Core.Path.{_≡_, sym, ap, ap₂, _∙_, fun-ext}
 use mathlib.Core.Logic.{_≢_, _⊎_, inl, inr}
 use mathlib.Core.Bool.{cond}
 use Prim.Native.Nat.{ℕ, suc, _+_, _-_, _*_, _%_, _≤_, _<_}
@@ -16,7 +16,7 @@ use lib.Dec.{ltb, lt→ltb}
 use lib.Arith.{le→nltb}
 use Rattle.parity.specs.Xor.{_⊕_}
 use Rattle.parity.specs.Sum.{sum}
-use Rattle.parity.specs.Equations.{Lane, cell, back, H, S, D, Holds}
+use Rattle.parity.specs.Equations.{Lane, cell, back, H, D, Holds}
 use Rattle.parity.proofs.Xor.{⊕-self, ⊕-eq, xor}
 use Rattle.parity.proofs.Sum.{sum-cong, sum-add, sum-cut}
 use Rattle.parity.proofs.Column.{O, total}

@@ -18,7 +18,7 @@ use native.Mathlib.Omega.{arith}
 use lib.Dec.{eqb, leb}
 use borrow.Author.Tests.{eq-eqb, ne-eqb, le-leb, lt-leb}
 use Rattle.parity.specs.Xor.{_⊕_}
-use Rattle.parity.specs.Equations.{Lane, cell, H, D, amountH, amountD, Holds}
+use Rattle.parity.specs.Equations.{Lane, cell, H, amountH, amountD, Holds}
 use Rattle.parity.proofs.Xor.{⊕-comm, ⊕-self, ⊕-cancel}
 use Rattle.parity.proofs.Sum.{sum-add, sum-one}
 use Rattle.parity.proofs.Cells.{cell-real, cell-same, H-same, D-same, holds-same}

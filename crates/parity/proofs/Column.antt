@@ -1,5 +1,5 @@
 -- Numbers at the places of a type X, added place by place: they are a group as the numbers are. Assumes nothing.
-use mathlib.Core.Path.{_≡_, refl, sym, ap, _∙_, fun-ext}
+use mathlib.Core.Path.{_≡_, ap, fun-ext}
 use mathlib.Core.Logic.{_≢_}
 use Prim.Native.Nat.{ℕ, suc, _+_, _<_}
 use Rattle.parity.specs.Xor.{_⊕_}

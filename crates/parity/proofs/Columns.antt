@@ -2,17 +2,16 @@
 --   same-column, column-same   columns that do not differ have the same bytes, and the other way round
 --   Cover, cover               with at most two columns absent: two columns, of which no other is absent. Where fewer are absent, H or D fills up.
 --   agrees-same                present columns that agree have the same bytes
-use mathlib.Core.Path.{_≡_, refl, sym, ap, _∙_}
-use mathlib.Core.Logic.{_≢_, _⊎_, inl, inr}
+use mathlib.Core.Path.{_≡_, refl, sym, ap}
+use mathlib.Core.Logic.{_≢_, inl, inr}
 use mathlib.Core.Bool.{Bool, true, false, not}
 use mathlib.Core.List.{List}
-use Prim.Native.Nat.{ℕ, zero, suc, _+_, _-_, _≤_, _<_}
+use Prim.Native.Nat.{ℕ, _+_, _-_, _≤_, _<_}
 use native.Mathlib.Nat.{eq-or-lt-of-le}
-use native.Mathlib.Decide.{decLt, ℕ-discrete}
+use native.Mathlib.Decide.{decLt}
 use native.Mathlib.Omega.{arith}
-use lib.Dec.{eqb}
 use borrow.Author.Tests.{eqb-true, eq-eqb}
-use Rattle.parity.specs.Sum.{count, some}
+use Rattle.parity.specs.Sum.{count}
 use Rattle.parity.specs.Stripe.{byte}
 use Rattle.parity.specs.Presence.{differs}
 use Rattle.parity.proofs.Count.{none-pass, Last, last-pass, some-false, false-some}

@@ -6,7 +6,7 @@
 --   one-pass         a count of at most one: every number below n but one fails
 --   some-false, false-some   none passes, said number by number
 --   some-true        a number that passes
-use mathlib.Core.Path.{_≡_, refl, sym, ap, ap₂, _∙_}
+use mathlib.Core.Path.{_≡_, refl, ap, ap₂, _∙_}
 use mathlib.Core.Logic.{_≢_, _⊎_, inl, inr}
 use mathlib.Core.Bool.{Bool, true, false, cond, _||_, false≢true}
 use Prim.Native.Nat.{ℕ, zero, suc, _≤_, _<_}

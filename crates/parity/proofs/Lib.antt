@@ -17,3 +17,4 @@ pub mod Table
 pub mod Candidate
 pub mod Test
 pub mod Numbers
+pub mod Fits

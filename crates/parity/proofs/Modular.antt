@@ -1,8 +1,7 @@
 -- The rows modulo m, gone through in steps of δ: an order of all rows where δ has an inverse. Assumes nothing.
-use mathlib.Core.Path.{_≡_, refl, sym, ap, ap₂, _∙_}
-use mathlib.Core.Logic.{_≢_, _⊎_, inl, inr}
-use Prim.Native.Nat.{ℕ, zero, suc, _+_, _-_, _*_, _/_, _%_, _≤_, _<_, zero-le}
-use native.Mathlib.Nat.{mod-add-div', add-mul-mod-self-right, mul-comm, mod-add-mod, add-mod-mod, add-mod, mul-one, zero-mul, zero-mod, add-zero, mod-mod, mod-eq-of-lt, mod-lt, add-comm, add-assoc}
+use mathlib.Core.Path.{_≡_, sym, ap, _∙_}
+use Prim.Native.Nat.{ℕ, _+_, _-_, _*_, _/_, _%_, _<_}
+use native.Mathlib.Nat.{mod-add-div', add-mul-mod-self-right, mul-comm, mod-add-mod, add-mod-mod, add-mod, mul-one, zero-mul, zero-mod, add-zero, mod-eq-of-lt, mod-lt}
 use native.Mathlib.Omega.{arith}
 use Rattle.parity.proofs.Sum.{Order}
 

@@ -3,7 +3,7 @@
 --   stripe-determined        valid stripes that are alike are one
 --   stripe-completed         a valid stripe that is alike is there, whatever the other columns hold
 --   stripe-second            a third column changed gives another one
-use mathlib.Core.Path.{_≡_, refl, sym, ap, _∙_}
+use mathlib.Core.Path.{_≡_, sym, ap, _∙_}
 use mathlib.Core.Logic.{_≢_}
 use mathlib.Core.Bool.{true, false, cond}
 use mathlib.Core.List.{List}

@@ -1,10 +1,9 @@
 -- What follows from the equations, for every shape: the statements of specs/Theorems. A prime enters in `served` alone.
-use mathlib.Core.Path.{_≡_, refl, sym, ap, _∙_}
-use mathlib.Core.Logic.{_≢_, _↔_}
+use mathlib.Core.Path.{_≡_, sym, ap, _∙_}
+use mathlib.Core.Logic.{_≢_}
 use mathlib.Core.Bool.{Bool, true, false, not}
 use mathlib.Core.List.{List}
 use Prim.Native.Nat.{ℕ, _+_, _-_, _≤_, _<_}
-use native.Mathlib.Nat.{ne-of-gt}
 use native.Mathlib.Decide.{decLt, ℕ-discrete}
 use native.Mathlib.Omega.{arith}
 use lib.Dec.{eqb}
@@ -12,14 +11,14 @@ use borrow.Author.Tests.{eq-eqb, ne-eqb, eqb-true}
 use Rattle.parity.specs.Xor.{_⊕_}
 use Rattle.parity.specs.Sum.{count, some}
 use Rattle.parity.specs.Shape.{Shape}
-use Rattle.parity.specs.Equations.{amountH, amountD, H, D, Holds}
-use Rattle.parity.specs.Stripe.{byte, lane, Stripe, Valid, brokenRows, brokenDiagonals, Intact}
+use Rattle.parity.specs.Equations.{amountH, amountD, H, D}
+use Rattle.parity.specs.Stripe.{byte, lane, Stripe, Valid, brokenRows, brokenDiagonals}
 use Rattle.parity.specs.Presence.{present, absences, differs, differing, DifferIn, Agrees}
 use Rattle.parity.specs.Theorems.{Distance, AtMostOne, ExactlyOne, NeverOne, AbsentUnread, OneWrong, IntactIsValid}
 use Rattle.parity.specs.Numbers.{Numbers}
 use Rattle.parity.proofs.Xor.{⊕-self, ⊕-eq}
 use Rattle.parity.proofs.Count.{none-pass, all-fail, Last, last-pass, some-false, false-some}
-use Rattle.parity.proofs.Columns.{not-false, same-column, column-same, other-way, Cover, cover}
+use Rattle.parity.proofs.Columns.{not-false, same-column, column-same, other-way, cover}
 use Rattle.parity.proofs.Prime.{inverse}
 use Rattle.parity.proofs.Table.{table}
 use Rattle.parity.proofs.Numbers.{numbers-given}

@@ -2,17 +2,17 @@
 -- to row m - 1 to every row, which makes that row zero again. Turns add up, and where δ has an inverse modulo m, which is odd,
 -- 1 + (the turn by δ) can be undone: by the turns by δ, 3δ, 5δ, …, (m - 2)δ, added. For all turns by multiples of δ, added, are zero. Assumes nothing.
 use mathlib.Core.Path.{_≡_, refl, sym, ap, ap₂, _∙_, fun-ext}
-use mathlib.Core.Logic.{_≢_, _⊎_, inl, inr}
-use Prim.Native.Nat.{ℕ, zero, suc, _+_, _-_, _*_, _/_, _%_, _≤_, _<_, zero-le}
-use native.Mathlib.Nat.{mod-add-mod, add-mod-mod, add-mod, mod-eq-of-lt, mod-lt, add-comm, add-assoc, eq-or-lt-of-le, add-zero, zero-mul, mul-mod-left, zero-mod, mod-self}
+use mathlib.Core.Logic.{_⊎_, inl, inr}
+use Prim.Native.Nat.{ℕ, zero, suc, _+_, _-_, _*_, _/_, _%_, _≤_, _<_}
+use native.Mathlib.Nat.{mod-add-mod, add-mod-mod, mod-eq-of-lt, mod-lt, add-comm, add-assoc, eq-or-lt-of-le, add-zero, zero-mul, mul-mod-left, zero-mod}
 use native.Mathlib.Decide.{decLt, Fin·val-path}
 use native.Mathlib.Omega.{arith}
 use Rattle.parity.specs.Xor.{_⊕_}
-use Rattle.parity.proofs.Xor.{⊕-assoc, ⊕-comm, ⊕-self, ⊕-zero, zero-⊕, ⊕-left-comm, ⊕-cancel, xor}
+use Rattle.parity.proofs.Xor.{⊕-self, ⊕-zero, xor}
 use Rattle.parity.specs.Sum.{sum}
 use Rattle.parity.proofs.Sum.{sum-cong, sum-add, sum-order}
 use Rattle.parity.proofs.Modular.{affine}
-use Rattle.parity.proofs.Column.{_⊞_, O, total, ⊞-assoc, ⊞-comm, ⊞-self, ⊞-zero, zero-⊞, ⊞-left-comm, ⊞-cancel, ⊞-eq, xors, by-sums, total-cong, total-none, total-add, total-head, total-pairs}
+use Rattle.parity.proofs.Column.{_⊞_, O, total, ⊞-self, ⊞-eq, total-cong, total-none, total-add, total-head, total-pairs}
 
 abbrev pub Col : ℕ → Type 0
 Col m = (i : ℕ) × (i < m - 1) → ℕ

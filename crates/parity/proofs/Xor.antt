@@ -2,9 +2,9 @@
 --   simp xor           proves an equation of sums that differ in order, or in what stands in them twice
 --   by-sum e (simp xor)  derives an equation from the equation e
 --   ⊕-lt, ⊕-byte       sums of bytes are bytes
-use mathlib.Core.Path.{_≡_, refl, sym, ap, ap₂, _∙_}
-use Prim.Native.Nat.{ℕ, zero, suc, _+_, _*_, _/_, _%_, _^_, _≤_, _<_}
-use native.Mathlib.Nat.{div-add-mod', mod-lt}
+use mathlib.Core.Path.{_≡_, refl, sym, ap, _∙_}
+use Prim.Native.Nat.{ℕ, zero, suc, _/_, _%_, _<_}
+use native.Mathlib.Nat.{div-add-mod'}
 use native.Mathlib.Omega.{arith}
 use lib.Arith.{bin-ind}
 use lib.Bits.{bitXor, xor-comm, xor-self, xor-zero-r, xor-lt, xor-shr, xor-mod}

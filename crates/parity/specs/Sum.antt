@@ -2,7 +2,7 @@
 --   sum n f     the sum f 0 ⊕ f 1 ⊕ … ⊕ f (n - 1)
 --   count n p   how many pass the test p
 --   some n p    whether one passes the test p
-use mathlib.Core.Bool.{Bool, true, false, cond, _||_}
+use mathlib.Core.Bool.{Bool, false, cond, _||_}
 use Prim.Native.Nat.{ℕ, zero, suc}
 use Rattle.parity.specs.Xor.{_⊕_}
 

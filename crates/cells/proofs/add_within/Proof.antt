@@ -1,7 +1,7 @@
 -- `cells::add_within` meets its contract. The invariant: the first l bytes at `at` are added to, all others as they were.
 use mathlib.Core.Path.{_≡_, refl, ap₂, subst}
 use Prim.Native.Nat.{ℕ, _≤_, _-_, _+_}
-use lib.ListN.{length, getD, set, length-set}
+use lib.ListN.{length, getD, length-set}
 use denote.Ref.{now}
 use Rattle.parity.specs.Xor.{_⊕_}
 use Rattle.cells.specs.Runs.{Put}

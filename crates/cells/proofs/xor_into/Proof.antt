@@ -1,7 +1,7 @@
 -- `cells::xor_into` meets its contract. The invariant: the bytes before j are added to, the others as they were.
-use mathlib.Core.Path.{_≡_, refl, ap, ap₂, subst}
+use mathlib.Core.Path.{_≡_, ap, subst}
 use Prim.Native.Nat.{ℕ, _≤_, _-_, _+_}
-use lib.ListN.{length, getD, set, length-set}
+use lib.ListN.{length, getD, set}
 use denote.Ref.{now}
 use Rattle.parity.specs.Xor.{_⊕_}
 use Rattle.cells.specs.Runs.{Put}

@@ -1,7 +1,7 @@
 -- `counts::count_both` meets its contract: sum becomes S, and what the cells of H and D differ by are the amounts.
 use mathlib.Core.Path.{_≡_, refl, sym, ap, _∙_}
-use mathlib.Core.List.{List, []}
-use Prim.Native.Nat.{ℕ, _+_, _-_, _≤_}
+use mathlib.Core.List.{[]}
+use Prim.Native.Nat.{ℕ, _+_, _-_}
 use lib.ListN.{getD}
 use denote.Ref.{now}
 use Rattle.parity.specs.Stripe.{lane}

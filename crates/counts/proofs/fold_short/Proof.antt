@@ -1,7 +1,6 @@
 -- `counts::fold_short` meets its contract: the whole cell is one part.
-use mathlib.Core.Path.{_≡_, ap, subst}
+use mathlib.Core.Path.{ap, subst}
 use Prim.Native.Nat.{ℕ, _+_}
-use lib.ListN.{length}
 use denote.Ref.{now}
 use Rattle.parity.specs.Stripe.{lane}
 use Rattle.cells.specs.Runs.{Tells}

@@ -3,9 +3,7 @@ use Prim.Native.Nat.{_+_}
 use lib.ListN.{length}
 use denote.Ref.{now}
 use Rattle.parity.specs.Stripe.{lane}
-use Rattle.cells.proofs.Parts.{part}
 use Rattle.cells.proofs.Puts.{added-none, added-same}
-use Rattle.lines.specs.Lines.{real}
 use Rattle.lines.proofs.Lines.{real-out, cell-read, cell-room, column-most}
 use borrow.Author.Needs.{needs}
 use native.Mathlib.Omega.{arith}

@@ -1,5 +1,5 @@
 -- `lines::add_span` meets its contract. The invariant: the columns from t0 up to t are added, and r is the row of the line in column t.
-use mathlib.Core.Path.{_≡_, refl, sym, ap, _∙_, subst}
+use mathlib.Core.Path.{_≡_, sym, ap, _∙_, subst}
 use Prim.Native.Nat.{ℕ, _+_, _*_, _-_, _≤_, _<_}
 use denote.Ref.{now}
 use Rattle.parity.specs.Xor.{_⊕_}

@@ -1,8 +1,7 @@
 -- `lines::start` meets its contract: an empty seed is zero at every lane, another one is copied.
-use mathlib.Core.Path.{_≡_, refl, sym, ap, _∙_}
-use mathlib.Core.List.{List}
-use Prim.Native.Nat.{ℕ, _+_}
-use lib.ListN.{length, getD, List·getD-eq-default}
+use mathlib.Core.Path.{sym}
+use Prim.Native.Nat.{_+_}
+use lib.ListN.{length, List·getD-eq-default}
 use denote.Ref.{now}
 use Rattle.cells.proofs.Parts.{part, part-at}
 use Rattle.cells.proofs.Puts.{put-same, put-all}
