@@ -1,5 +1,6 @@
 -- Laws of `Put` and `Added`.
 --   put-none, put-one   nothing put, and one byte more
+--   put-kept            bytes that were so before
 --   put-next            a second run after the first, which may overlap it
 --   put-same            the same bytes by another name
 --   put-part, put-added a lent part that came back with other bytes, or with something added
@@ -20,8 +21,11 @@ use Rattle.parity.proofs.Xor.{⊕-assoc, ⊕-zero}
 use Rattle.cells.specs.Runs.{Added, Put}
 use Rattle.cells.proofs.Parts.{part, part-at, by-order, mid-length, mid-before, mid-inside, mid-after}
 
+pub put-kept : (s : List ℕ) (at n : ℕ) (f : ℕ → ℕ) → ((l : ℕ) → l < n → getD s (at + l) 0 ≡ f l) → Put s s at n f
+put-kept s at n f so = record { size = refl; inside = so; before = λ p h. refl; after = λ p h. refl }
+
 pub put-none : (s : List ℕ) (at : ℕ) (f : ℕ → ℕ) → Put s s at 0 f
-put-none s at f = record { size = refl; inside = λ l h. absurd (omega arith); before = λ p h. refl; after = λ p h. refl }
+put-none s at f = put-kept s at 0 f (λ l h. absurd (omega arith))
 
 pub put-one : (s t : List ℕ) (at l v : ℕ) (f : ℕ → ℕ) → at + l < length t → v ≡ f l → Put s t at l f → Put s (set t (at + l) v) at (l + 1) f
 put-one s t at l v f room e p = record {

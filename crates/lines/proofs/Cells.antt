@@ -1,0 +1,46 @@
+-- Where a cell stands in a buffer, and a buffer in which one cell was set: its lanes are what was put there, all other cells are as they were.
+--   cell-end       a cell lies within its column
+--   cell-at        a byte of a cell, by its place
+--   cell-set       the cell itself
+--   other-row      the other cells of its column
+--   other-column   the cells of another column
+use mathlib.Core.Path.{_≡_, ap, _∙_}
+use mathlib.Core.Logic.{_≢_}
+use mathlib.Core.List.{List}
+use Prim.Native.Nat.{ℕ, _+_, _*_, _-_, _≤_, _<_}
+use native.Mathlib.Omega.{arith}
+use lib.ListN.{getD}
+use Rattle.parity.specs.Shape.{columnLength}
+use Rattle.parity.specs.Stripe.{byte, lane}
+use Rattle.cells.specs.Runs.{Put}
+use Rattle.cells.proofs.Parts.{parts-end, by-order}
+
+pub cell-end : (m b x : ℕ) → x < m - 1 → x * b + b ≤ columnLength m b
+unfolding columnLength
+cell-end m b x h = parts-end b h
+
+-- one is below the other
+apart : (P : Type 0) (x y : ℕ) → x ≢ y → (x < y → P) → (y < x → P) → P
+apart P x y ne f g = by-order P x y f (λ h. g (omega (arith, ne)))
+
+pub cell-at : (m b r t : ℕ) {p : ℕ} → p ≡ t * columnLength m b + r * b → (s : List ℕ) (l : ℕ) → lane m b s l r t ≡ getD s (p + l) 0
+unfolding byte
+cell-at m b r t {p} at s l =
+    let e : t * columnLength m b + (r * b + l) ≡ p + l = omega arith in
+    ap (λ (x : ℕ). getD s x 0) e
+
+module _ (m b : ℕ) {s v : List ℕ} {p : ℕ} {f : ℕ → ℕ} (r t : ℕ) (at : p ≡ t * columnLength m b + r * b) (q : Put s v p b f) where
+  pub cell-set : (l : ℕ) → l < b → lane m b v l r t ≡ f l
+  cell-set l h = cell-at m b r t at v l ∙ q .inside l h
+
+  pub other-row : (l x : ℕ) → l < b → x ≢ r → lane m b v l x t ≡ lane m b s l x t
+  unfolding byte
+  other-row l x h ne = apart (lane m b v l x t ≡ lane m b s l x t) x r ne
+      (λ e. q .before _ (omega (arith, parts-end b e)))
+      (λ e. q .after _ (omega (arith, parts-end b e)))
+
+  pub other-column : r < m - 1 → (l x y : ℕ) → l < b → x < m - 1 → y ≢ t → lane m b v l x y ≡ lane m b s l x y
+  unfolding byte
+  other-column hr l x y h hx ne = apart (lane m b v l x y ≡ lane m b s l x y) y t ne
+      (λ e. q .before _ (omega (arith, parts-end (columnLength m b) e, cell-end m b x hx)))
+      (λ e. q .after _ (omega (arith, parts-end (columnLength m b) e, cell-end m b r hr)))

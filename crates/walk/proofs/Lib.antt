@@ -1,0 +1,4 @@
+pub mod Rows
+pub mod Turns
+pub mod Halves
+pub mod Callers
