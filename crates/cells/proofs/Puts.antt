@@ -2,13 +2,14 @@
 --   put-none, put-one   nothing put, and one byte more
 --   put-kept            bytes that were so before
 --   put-next            a second run after the first, which may overlap it
---   put-same            the same bytes by another name
+--   put-same, put-count the same bytes by another name, and so many by another name
 --   put-part, put-added a lent part that came back with other bytes, or with something added
+--   put-copied          a lent part that came back as a run which was set before
 --   put-all             the whole run became another one
 --   put-then-added      a run that was set, and then added to
 --   added-put           a run added to from its start
 --   added-none, added-both, added-same
-use mathlib.Core.Path.{_≡_, refl, sym, ap, _∙_}
+use mathlib.Core.Path.{_≡_, refl, sym, ap, _∙_, subst}
 use mathlib.Core.List.{List}
 use Prim.Native.Nat.{ℕ, _+_, _-_, _≤_, _<_}
 use native.Mathlib.Omega.{arith}
@@ -53,6 +54,9 @@ put-next s t u at j x n f g h₁ h₂ p q so = record {
 
 pub put-same : {s t : List ℕ} {at n : ℕ} {f g : ℕ → ℕ} → Put s t at n f → ((l : ℕ) → l < n → f l ≡ g l) → Put s t at n g
 put-same p so = record { size = p .size; inside = λ l h. p .inside l h ∙ so l h; before = p .before; after = p .after }
+
+pub put-count : {s t : List ℕ} {at n k : ℕ} {f : ℕ → ℕ} → Put s t at n f → n ≡ k → Put s t at k f
+put-count {s} {t} {at} {f = f} p e = subst (λ (x : ℕ). Put s t at x f) e p
 
 pub put-part : (w y : List ℕ) (at n : ℕ) (f : ℕ → ℕ) → at + n ≤ length w → length y ≡ n → ((l : ℕ) → l < n → getD y l 0 ≡ f l) → Put w (putMid at n w y) at n f
 put-part w y at n f room l so = record {
@@ -107,3 +111,10 @@ put-added w y at e f order room a = put-part w y at (e - at) (λ l. getD w (at +
   where
     size : length (part w at e) ≡ e - at
     size = length-take-le (e - at) _ (simp length-drop (omega arith))
+
+pub put-copied : (w x y z : List ℕ) (at n : ℕ) (f : ℕ → ℕ) → at + length x ≤ length w → n ≡ length x → Put x y 0 (length x) f → z ≡ y
+    → Put w (putMid at n w z) at (length x) f
+put-copied w x y z at n f room e p so =
+    put-count (put-part w z at n f (omega arith) (ap length so ∙ p .size ∙ sym e) (λ l h.
+    let q : l ≡ 0 + l = omega arith in
+    ap (λ (v : List ℕ). getD v l 0) so ∙ ap (λ (v : ℕ). getD y v 0) q ∙ p .inside l (omega arith))) e

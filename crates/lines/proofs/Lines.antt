@@ -3,13 +3,14 @@
 --   back-none, back-back     no row up; one step up after another
 --   real-in, real-out        rows below m - 1 are the lane's, the others zero
 --   cell-read                the lanes of a cell, read from a part of the column, which is a part of the stripe
---   span-none, span-more, span-line   a span of no columns, of one column more, and from column 0 on
+--   span-none, span-more, span-join, span-line   a span of no columns, of one column more, of the columns of two, and from column 0 on
 --   column-is, column-most, cell-room   a cell lies within its column, and a column is not long
+--   crosses-line, crosses-columns      another line, and fewer columns, can be followed too
 --   slant-in, slant-next, row-next     what a slant adds up to, column by column
 use mathlib.Core.Path.{_≡_, sym, ap, _∙_}
 use mathlib.Core.List.{List}
 use Prim.Native.Nat.{ℕ, _+_, _*_, _-_, _%_, _≤_, _<_}
-use native.Mathlib.Nat.{mod-lt, mod-eq-of-lt, add-mod-right, mod-add-mod, mul-le-mul, mul-le-mul-left, le-trans}
+use native.Mathlib.Nat.{mod-lt, mod-eq-of-lt, add-mod-right, mod-add-mod, mul-le-mul, mul-le-mul-left, mul-le-mul-right, le-trans}
 use native.Mathlib.Numerals.{add-one}
 use native.Mathlib.Omega.{arith}
 use lib.ListN.{getD}
@@ -19,9 +20,9 @@ use Rattle.parity.specs.Sum.{sum}
 use Rattle.parity.specs.Shape.{columnLength}
 use Rattle.parity.specs.Equations.{Lane, back}
 use Rattle.parity.specs.Stripe.{byte, lane}
-use Rattle.parity.proofs.Xor.{⊕-assoc, ⊕-self, zero-⊕}
+use Rattle.parity.proofs.Xor.{⊕-assoc, ⊕-self, ⊕-cancel, zero-⊕}
 use Rattle.cells.proofs.Parts.{part, part-at, parts-end}
-use Rattle.lines.specs.Lines.{real, line, span, Sized}
+use Rattle.lines.specs.Lines.{real, line, span, Sized, Crosses}
 
 pub up-around : (m e r : ℕ) → r < e → e ≤ m → r + m - e ≡ back m r e
 unfolding back
@@ -75,6 +76,10 @@ module _ (m : ℕ) (a : Lane) where
   unfolding span
   span-more e i x t = ⊕-assoc (line m a e i x) (line m a e i t) _ ∙ ap (λ (y : ℕ). line m a e i x ⊕ y) (line-more e i t)
 
+  pub span-join : (e i x y z : ℕ) → span m a e i x y ⊕ span m a e i y z ≡ span m a e i x z
+  unfolding span
+  span-join e i x y z = ⊕-assoc (line m a e i x) (line m a e i y) _ ∙ ap (λ (n : ℕ). line m a e i x ⊕ n) (⊕-cancel (line m a e i y) (line m a e i z))
+
 pub cell-read : (s : List ℕ) (m b c t r j n : ℕ) → c ≡ columnLength m b → r < m - 1 → r * b + j + n ≤ c → (l : ℕ) → l < n
     → getD (part (part s (t * c) (t * c + c)) (r * b + j) (r * b + j + n)) l 0 ≡ real m (lane m b s (j + l)) r t
 unfolding byte
@@ -109,3 +114,23 @@ module _ (e y m : ℕ) (within : e * y ≤ m) where
 -- the row of a line, one column on
 pub row-next : (m i e t : ℕ) → e * t + e ≤ m → back m (back m i (e * t)) e ≡ back m i (e * (t + 1))
 row-next m i e t h = back-back m i (e * t) e h ∙ ap (back m i) (omega arith)
+
+pub crosses-line : {m c n e i x y : ℕ} (e′ i′ : ℕ) → e′ ≤ e → i′ < m → Crosses m c n e i x y → Crosses m c n e′ i′ x y
+crosses-line {y = y} e′ i′ h l z = record {
+  slant = le-trans h (z .slant);
+  inside = l;
+  order = z .order;
+  within = le-trans (mul-le-mul-right y h) (z .within);
+  most = z .most;
+  columns = z .columns;
+}
+
+pub crosses-columns : {m c n e i x y : ℕ} (x′ y′ : ℕ) → x′ ≤ y′ → y′ ≤ y → Crosses m c n e i x y → Crosses m c n e i x′ y′
+crosses-columns {c = c} {e = e} x′ y′ h l z = record {
+  slant = z .slant;
+  inside = z .inside;
+  order = h;
+  within = le-trans (mul-le-mul-left e l) (z .within);
+  most = le-trans l (z .most);
+  columns = le-trans (mul-le-mul-right c l) (z .columns);
+}

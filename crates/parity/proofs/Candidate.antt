@@ -2,29 +2,24 @@
 -- column D by the diagonals. In what follows w is a lane whose equations hold, and a is the same as w in every column but u.
 --   amountH-only        for u up to k each row of a breaks by what column u of a and w differ by
 --   amountD-only        for u = k + 1 each diagonal does
---   candidate m k a u   the lane a with what it breaks by added to its column u: rows for u up to k, diagonals for k + 1
---   candidate-h, -d     its column u, as just said
+--   candidate-h, -d     the candidate's column u, by rows and by diagonals
 --   candidate-other     its other columns are a's
 --   candidate-only      its column u is w's
 --   candidate-same      so it is the same as w
 --   candidate-holds     and its equations hold
 use mathlib.Core.Path.{_≡_, refl, sym, ap, ap₂, _∙_}
 use mathlib.Core.Logic.{_≢_, _⊎_, inl, inr}
-use mathlib.Core.Bool.{cond}
 use Prim.Native.Nat.{ℕ, _+_, _-_, _≤_, _<_}
 use native.Mathlib.Nat.{eq-or-lt-of-le}
 use native.Mathlib.Decide.{ℕ-discrete, decLe}
 use native.Mathlib.Omega.{arith}
-use lib.Dec.{eqb, leb}
 use borrow.Author.Tests.{eq-eqb, ne-eqb, le-leb, lt-leb}
 use Rattle.parity.specs.Xor.{_⊕_}
 use Rattle.parity.specs.Equations.{Lane, cell, H, amountH, amountD, Holds}
+use Rattle.parity.specs.Candidate.{candidate}
 use Rattle.parity.proofs.Xor.{⊕-comm, ⊕-self, ⊕-cancel}
 use Rattle.parity.proofs.Sum.{sum-add, sum-one}
 use Rattle.parity.proofs.Cells.{cell-real, cell-same, H-same, D-same, holds-same}
-
-unfoldable pub candidate : (m k : ℕ) → Lane → ℕ → Lane
-candidate m k a u i t = cond (eqb t u) (a i t ⊕ cond (leb u k) (amountH m k a i) (amountD m k a i)) (a i t)
 
 module _ (m k : ℕ) (a : Lane) where
   pub candidate-h : (u i : ℕ) → u ≤ k → candidate m k a u i u ≡ a i u ⊕ amountH m k a i

@@ -1,5 +1,4 @@
 -- With one column u left out, the others fit a valid stripe exactly when the candidate for u obeys the equations in every lane.
---   FitsBut m k b u s      it does. A number u that is no column's leaves nothing out.
 --   rewritten m k b u s    s with column u rewritten to the candidate
 --   fits-valid             if the others fit, that stripe is valid, and differs in no column but u
 --   valid-fits             if a valid stripe differs in no column but u, the others fit, and it is that stripe
@@ -12,17 +11,15 @@ use native.Mathlib.Decide.{decLt}
 use native.Mathlib.Omega.{arith}
 use lib.Dec.{ltb, eqb, leb}
 use Rattle.parity.specs.Xor.{_⊕_}
-use Rattle.parity.specs.Equations.{Lane, cell, back, H, S, D, amountH, amountD, Holds}
+use Rattle.parity.specs.Equations.{Lane, cell, back, H, S, D, amountH, amountD}
 use Rattle.parity.specs.Stripe.{byte, lane, Stripe, Valid}
+use Rattle.parity.specs.Candidate.{candidate, FitsBut}
 use Rattle.parity.proofs.Xor.{⊕-lt}
 use Rattle.parity.proofs.Sum.{sum-lt}
 use Rattle.parity.proofs.Cells.{holds-same}
 use Rattle.parity.proofs.Bytes.{stripe-ext, build, build-byte, build-stripe}
 use Rattle.parity.proofs.Stripes.{byte-lt}
-use Rattle.parity.proofs.Candidate.{candidate, candidate-other, candidate-same, candidate-holds}
-
-abbrev pub FitsBut : ℕ → ℕ → ℕ → ℕ → List ℕ → Type 0
-FitsBut m k b u s = (l : ℕ) → l < b → Holds m k (candidate m k (lane m b s l) u)
+use Rattle.parity.proofs.Candidate.{candidate-other, candidate-same, candidate-holds}
 
 pub rewritten : ℕ → ℕ → ℕ → ℕ → List ℕ → List ℕ
 rewritten m k b u s = build m k b (λ l. candidate m k (lane m b s l) u)
@@ -69,10 +66,10 @@ module _ (m k b u : ℕ) (s : List ℕ) where
       (same : (l i t : ℕ) → l < b → i < m - 1 → t < k + 2 → t ≢ u → byte m b s l i t ≡ byte m b v l i t) where
     pub valid-fits : FitsBut m k b u s
     valid-fits l hl = elim (decLt u (k + 2)) [
-        | yes inside ↦ candidate-holds m k u (lane m b s l) (lane m b v l) (vv .lanes l hl) (λ i t hi ht ne. same l i t hl hi ht ne) few inside
-        | no outside ↦ holds-same m k (lane m b v l) (candidate m k (lane m b s l) u)
-            (λ i t hi ht. let ne : t ≢ u = λ e. omega arith in sym (candidate-other m k (lane m b s l) u i t ne ∙ same l i t hl hi ht ne)) (vv .lanes l hl)
-      ]
+      | yes inside ↦ candidate-holds m k u (lane m b s l) (lane m b v l) (vv .lanes l hl) (λ i t hi ht ne. same l i t hl hi ht ne) few inside
+      | no outside ↦ holds-same m k (lane m b v l) (candidate m k (lane m b s l) u)
+          (λ i t hi ht. let ne : t ≢ u = λ e. omega arith in sym (candidate-other m k (lane m b s l) u i t ne ∙ same l i t hl hi ht ne)) (vv .lanes l hl)
+    ]
 
     pub fits-only : 1 < m → 0 < b → u < k + 2 → Stripe m k b s → v ≡ rewritten m k b u s
     fits-only big full inside st =

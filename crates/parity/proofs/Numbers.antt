@@ -23,9 +23,10 @@ use Rattle.parity.specs.Stripe.{byte, lane, Valid, brokenRows, brokenDia
 use Rattle.parity.specs.Presence.{present, absences, differs, differing, Agrees}
 use Rattle.parity.specs.Theorems.{Table, AtMostOne}
 use Rattle.parity.specs.Numbers.{Claim, valid, special, agreeing, contradicted, ambiguous, counted, wrong, unmendable, intact, Means, All, numbers, Numbers}
+use Rattle.parity.specs.Candidate.{candidate}
 use Rattle.parity.proofs.Count.{one-pass}
 use Rattle.parity.proofs.Columns.{same-column, column-same}
-use Rattle.parity.proofs.Candidate.{candidate, candidate-holds}
+use Rattle.parity.proofs.Candidate.{candidate-holds}
 use Rattle.parity.proofs.Test.{Test, equal, unequal, atMost, is, both, orElse, every, any, passes, Says, proves}
 
 module _ (m k b : ℕ) where

@@ -5,5 +5,6 @@ pub mod Shape
 pub mod Equations
 pub mod Stripe
 pub mod Presence
+pub mod Candidate
 pub mod Theorems
 pub mod Numbers

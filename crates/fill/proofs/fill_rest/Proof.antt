@@ -1,0 +1,39 @@
+-- `fill::fill_rest` meets its contract: one part, of as many lanes as are left.
+use Rattle.cells.proofs.Puts.{put-count}
+use borrow.Author.Needs.{needs}
+use native.Mathlib.Omega.{arith}
+use Rattle.fill.proofs.fill_rest.Statement.{statement}
+use Rattle.fill.proofs.fill_rest.Tie as tie
+
+sub-fill-part : tie.Need-sub-fill-part
+sub-fill-part c = search needs
+
+sub-fill-part-2 : tie.Need-sub-fill-part-2
+sub-fill-part-2 c = search needs
+
+part-rest-start : tie.Need-part-rest-start
+part-rest-start c = search needs
+
+part-rest-end : tie.Need-part-rest-end
+part-rest-end c = search needs
+
+fill-part-requires : tie.Need-fill-part-requires
+fill-part-requires c κs = search needs
+
+same-length : tie.Need-same-length
+same-length c = search needs
+
+returns : tie.Need-returns
+returns c = put-count (c .before .before .before .fill-part .ensures) (omega arith)
+
+pub fill-rest-spec : {M : Type 1} → statement M
+fill-rest-spec =
+    tie.close
+    (tie.spec
+    sub-fill-part
+    sub-fill-part-2
+    part-rest-start
+    part-rest-end
+    fill-part-requires
+    same-length
+    returns)
