@@ -1,3 +1,7 @@
+-- The shape check.
+--   shapeRules m k b   its rules: the rules of each operation begin with them
+--   Judges m k b r     what it says of three numbers: the bytes of a column, or the refusal
+--   refusalOf r        the refusal that is carried
 use mathlib.Core.Path.{_≡_}
 use mathlib.Core.List.{List, [], _∷_}
 use Prim.Native.Nat.{ℕ}
@@ -8,7 +12,6 @@ use Rattle.evenodd.specs.declared.shapes.Refusal.{Refusal}
 use Rattle.evenodd.specs.declared.shapes.Refusal.the-variants as refusal
 use Rattle.evenodd.specs.Refusals.{Verdict, pass, refuse, Rule, Gives}
 
--- the shape check's rules: each operation's rules begin with them
 abbrev pub shapeRules : ℕ → ℕ → ℕ → List Rule
 shapeRules m k b = record { condition = Shape m k b → ⊥; refusal = refusal.Shape } ∷ []
 
@@ -23,3 +26,8 @@ goodColumn m b (Refused r) = Unit {0}
 pub record Judges (m k b : ℕ) (r : Judged) : Type 0 where
   pub told : Gives (shapeRules m k b) (judged r)
   pub column : goodColumn m b r
+
+-- the refusal that is carried; a good shape carries none
+abbrev pub refusalOf : Judged → Refusal
+refusalOf (Good c) = refusal.Shape
+refusalOf (Refused r) = r

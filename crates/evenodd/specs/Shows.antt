@@ -1,17 +1,16 @@
 -- What show says and hands out.
---   showRules          its refusals, in order: 1, 2, 3, 9, 7, 4
+--   showRules          its refusals, in order: 1, 2, 3, 9, 7, 4; laterRules: those after the shape's
 --   half map t         the half of the bench where restore puts absent column t: 0 for the lowest absent column, 1 for the other
 --   PartOf x at n r    r is the n bytes of the lent buffer x from `at` on, where they lie: the same block, the place in it, the bytes. No copy.
 --   Places             what the question "where" answers
 --   Shows              what show hands out; refused, it is an empty part at the start of the stripe
 use mathlib.Core.Path.{_≡_}
 use mathlib.Core.Logic.{_≢_}
-use mathlib.Core.Bool.{Bool, true, false, not}
+use mathlib.Core.Bool.{Bool, true, false}
 use mathlib.Core.List.{List, [], _∷_, _++_}
 use Prim.Native.Nat.{ℕ, _+_, _*_, _≤_}
 use denote.Ref.{RefT, now}
 use lib.ListN.{length, take, drop}
-use Rattle.parity.specs.Sum.{count}
 use Rattle.parity.specs.Shape.{columnLength, stripeLength, benchLength}
 use Rattle.parity.specs.Presence.{present}
 use Rattle.evenodd.specs.declared.maps.Map.{Map}
@@ -20,20 +19,22 @@ use Rattle.evenodd.specs.declared.showing.Place.the-variants.{InStripe, 
 use Rattle.evenodd.specs.declared.shapes.Refusal.the-variants.{StripeLength, BenchLength, StrayColumn, NoSuchColumn, Ambiguous}
 use Rattle.evenodd.specs.Refusals.{Verdict, pass, refuse, Rule, Gives}
 use Rattle.evenodd.specs.Shapes.{shapeRules}
-use Rattle.evenodd.specs.Maps.{Stray, TooManyAbsent}
+use Rattle.evenodd.specs.Maps.{Stray, TooManyAbsent, absentBelow}
 
-abbrev pub showRules : ℕ → ℕ → ℕ → Map → List ℕ → List ℕ → ℕ → List Rule
-showRules m k b map s bench column =
-    shapeRules m k b
-    ++ (record { condition = length s ≢ stripeLength m k b; refusal = StripeLength }
+abbrev pub laterRules : ℕ → ℕ → ℕ → Map → List ℕ → List ℕ → ℕ → List Rule
+laterRules m k b map s bench column =
+    record { condition = length s ≢ stripeLength m k b; refusal = StripeLength }
     ∷ record { condition = length bench ≢ benchLength m b; refusal = BenchLength }
     ∷ record { condition = Stray k (map .places); refusal = StrayColumn }
     ∷ record { condition = k + 2 ≤ column; refusal = NoSuchColumn }
     ∷ record { condition = TooManyAbsent k (map .places); refusal = Ambiguous }
-    ∷ [])
+    ∷ []
+
+abbrev pub showRules : ℕ → ℕ → ℕ → Map → List ℕ → List ℕ → ℕ → List Rule
+showRules m k b map s bench column = shapeRules m k b ++ laterRules m k b map s bench column
 
 unfoldable pub half : List Bool → ℕ → ℕ
-half map t = count t (λ x. not (present map x))
+half map t = absentBelow t map
 
 abbrev pub placed : Place → Verdict
 placed (InStripe start n) = pass

@@ -1,10 +1,12 @@
 // The presence map: 129 places, each present or absent. Only this file looks into its array.
 use crate::shapes::Refusal;
 ghost use mathlib.Core.Path.{_≡_};
-ghost use mathlib.Core.Bool.{true, false};
-ghost use Prim.Native.Nat.{ℕ, _≤_};
+ghost use mathlib.Core.Bool.{Bool, true, false};
+ghost use Prim.Native.Nat.{_+_, _≤_, _<_};
 ghost use Rattle.parity.specs.Presence.{present};
-ghost use Rattle.evenodd.specs.Maps.{New, Marks, JudgesPlace, Counts};
+ghost use mathlib.Core.Logic.{_↔_};
+ghost use mathlib.Core.List.{List};
+ghost use Rattle.evenodd.specs.Maps.{New, Marks, JudgesPlace, PresentFrom, Counts};
 
 pub struct Map {
     places: [bool; 129],
@@ -21,6 +23,38 @@ pub struct Gaps {
     pub count: usize,
     pub first: usize,
     pub second: usize,
+}
+
+impl Gaps {
+    // What was counted below a place, and then that place: it is there, or absent.
+    fn counted(self, place: usize, there: bool) -> Self
+        requires { ⌜ self .count < 129 ⌝ }
+        ensures { λ r. ⌜ ((map : List Bool) → Counts place map self → present map place ≡ there → Counts (place + 1) map r) ⌝ }
+    {
+        if there {
+            return self;
+        }
+        let count = self.count;
+        if count == 0 {
+            return Self {
+                count: 1,
+                first: place,
+                second: self.second,
+            };
+        }
+        if count == 1 {
+            return Self {
+                count: 2,
+                first: self.first,
+                second: place,
+            };
+        }
+        Self {
+            count: count + 1,
+            first: self.first,
+            second: self.second,
+        }
+    }
 }
 
 impl Map {
@@ -80,30 +114,22 @@ impl Map {
         requires { ⌜ n ≤ 129 ⌝ }
         ensures { λ r. ⌜ Counts n (self .places) r ⌝ }
     {
-        let mut count: usize = 0;
-        let mut first: usize = 129;
-        let mut second: usize = 129;
+        let mut gaps = Gaps {
+            count: 0,
+            first: 129,
+            second: 129,
+        };
         for t in 0..n {
-            if !self.places[t] {
-                if count == 0 {
-                    first = t;
-                }
-                if count == 1 {
-                    second = t;
-                }
-                count += 1;
-            }
+            let there = self.places[t];
+            gaps = gaps.counted(t, there);
         }
-        Gaps {
-            count,
-            first,
-            second,
-        }
+        gaps
     }
 
     // Whether a place from n on is present.
     pub(crate) fn strays(self, n: usize) -> bool
         requires { ⌜ n ≤ 129 ⌝ }
+        ensures { λ r. ⌜ (r ≡ true) ↔ PresentFrom n (self .places) ⌝ }
     {
         for t in n..129 {
             if self.places[t] {

@@ -1,7 +1,7 @@
 // Refusals, and the shape check.
 ghost use mathlib.Core.Path.{_≡_};
 ghost use Rattle.evenodd.specs.Refusals.{numberOf};
-ghost use Rattle.evenodd.specs.Shapes.{Judges};
+ghost use Rattle.evenodd.specs.Shapes.{Judges, refusalOf};
 
 // Why a call is refused. Every call of the shelf refuses with one of these, and each has one number.
 pub enum Refusal {
@@ -41,6 +41,18 @@ impl Refusal {
 pub enum Judged {
     Good { column: usize },
     Refused(Refusal),
+}
+
+impl Judged {
+    // The refusal that is carried. A good shape carries none; of it the answer is Shape.
+    pub fn refusal(self) -> Refusal
+        ensures { λ r. ⌜ r ≡ refusalOf self ⌝ }
+    {
+        match self {
+            Judged::Refused(r) => r,
+            Judged::Good { column: _ } => Refusal::Shape,
+        }
+    }
 }
 
 // Judges three numbers, whatever they are.

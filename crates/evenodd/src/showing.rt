@@ -26,21 +26,22 @@ pub fn place_of(
 {
     let judged = judge(m, k, b);
     let Judged::Good { column: length } = judged else {
-        return refused(judged);
+        return Place::Refused(judged.refusal());
     };
-    if stripe.len() != (k + 2) * length {
+    let columns = k + 2;
+    if stripe.len() != columns * length {
         return Place::Refused(Refusal::StripeLength);
     }
     if bench.len() != 2 * length {
         return Place::Refused(Refusal::BenchLength);
     }
-    if map.strays(k + 2) {
+    if map.strays(columns) {
         return Place::Refused(Refusal::StrayColumn);
     }
-    if k + 2 <= column {
+    if columns <= column {
         return Place::Refused(Refusal::NoSuchColumn);
     }
-    let gaps = map.gaps(k + 2);
+    let gaps = map.gaps(columns);
     if 2 < gaps.count {
         return Place::Refused(Refusal::Ambiguous);
     }
@@ -56,13 +57,6 @@ pub fn place_of(
     Place::InBench {
         start: length,
         length,
-    }
-}
-
-fn refused(judged: Judged) -> Place {
-    match judged {
-        Judged::Refused(r) => Place::Refused(r),
-        Judged::Good { column: _ } => Place::Refused(Refusal::Shape),
     }
 }
 

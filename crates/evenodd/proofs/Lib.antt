@@ -1,0 +1,6 @@
+-- Laws that belong to no one function.
+pub mod Rules
+pub mod Shape
+pub mod Presence
+pub mod Shown
+pub mod Determined

@@ -1,0 +1,140 @@
+-- Laws of the presence map.
+--   whole                      a map has 129 places
+--   past-all                   a place of 129 or more is not present
+--   new-absent                 in a list of absent places every place is absent
+--   marks-set, marks-kept      what a mark leaves, at a place below 129 and at another
+--   same-map                   two maps with the same places present are equal
+--   absences-below, below-..   how many places below a place are absent
+--   counts-..                  the gaps below 0, and below t + 1 where those below t are known
+use mathlib.Core.Path.{_≡_, refl, sym, ap, _∙_}
+use mathlib.Core.Bool.{Bool, true, false, not, cond}
+use mathlib.Core.List.{List}
+use Prim.Native.Nat.{ℕ, zero, suc, _+_, _≤_, _<_}
+use native.Mathlib.Numerals.{add-one}
+use native.Mathlib.Nat.{eq-or-lt-of-le, le-of-suc-le-suc, not-suc-le-zero}
+use native.Mathlib.Decide.{ℕ-discrete}
+use native.Mathlib.Omega.{arith}
+use mathlib.Core.Logic.{_⊎_, inl, inr, by-cases}
+use lib.ListN.{length, set, replicate, length-map, length-set, List·getD-eq-default}
+use lib.Seq.{getD-set-same, getD-set-other, ext-getD}
+use mir.Val.{Val}
+use denote.Laws.{Is}
+use borrow.Author.Tests.{eq-eqb, ne-eqb}
+use Rattle.parity.specs.Sum.{count}
+use Rattle.parity.specs.Presence.{present, absences}
+use Rattle.evenodd.specs.declared.maps.Map.{Map}
+use Rattle.evenodd.specs.declared.maps.Gaps.{Gaps}
+use Rattle.evenodd.specs.Maps.{Marks, absentBelow, NthAbsent, Counts}
+use Rattle.evenodd.proofs.maps.Map.{the-row}
+
+pub whole : (map : Map) {vs : List Val} → Is the-row map vs → length (map .places) ≡ 129
+whole map good = sym (length-map (map .places) (λ x. x)) ∙ good .1 .1 .0 .1 .0 .1
+
+pub past-all : (xs : List Bool) (t : ℕ) → length xs ≤ t → present xs t ≡ false
+unfolding present
+past-all xs t l = List·getD-eq-default xs false l
+
+pub new-absent : (n t : ℕ) → present (replicate n false) t ≡ false
+unfolding present
+new-absent zero t = refl
+new-absent (suc n) zero = refl
+new-absent (suc n) (suc t) = new-absent n t
+
+module _ (state : Bool) (before : Map) (place : ℕ) (w : length (before .places) ≡ 129) where
+  pub marks-set : place < 129 → Marks state before place (record { places = set (before .places) place state })
+  unfolding present
+  marks-set l = record {
+    whole = rw length-set w;
+    done = λ _ t. by-cases (ℕ-discrete t place)
+        (λ e. rw (eq-eqb t place e, e) (getD-set-same (before .places) place state false (omega arith)))
+        (λ n. rw (ne-eqb t place n) (getD-set-other (before .places) place t state false n));
+    kept = λ h. absurd (omega arith);
+  }
+
+  pub marks-kept : 129 ≤ place → Marks state before place before
+  marks-kept h = record { whole = w; done = λ l. absurd (omega arith); kept = λ _. refl }
+
+pub same-map : (x y : Map) → length (x .places) ≡ 129 → length (y .places) ≡ 129 → ((t : ℕ) → present (x .places) t ≡ present (y .places) t) → x ≡ y
+unfolding present
+same-map x y v w h = ap (λ places. record { places = places }) (ext-getD false (x .places) (y .places) (v ∙ sym w) (λ t _. h t))
+
+module _ (map : List Bool) (t : ℕ) where
+  below-present : present map t ≡ true → absentBelow (t + 1) map ≡ absentBelow t map
+  unfolding absentBelow count
+  below-present e = rw (add-one, e)
+
+  below-absent : present map t ≡ false → absentBelow (t + 1) map ≡ suc (absentBelow t map)
+  unfolding absentBelow count
+  below-absent e = rw (add-one, e)
+
+-- the columns that are absent are the absent places below k + 2
+pub absences-below : (k : ℕ) (map : List Bool) → absences k map ≡ absentBelow (k + 2) map
+unfolding absences absentBelow
+absences-below k map = refl
+
+pub below-most : (map : List Bool) (n : ℕ) → absentBelow n map ≤ n
+unfolding absentBelow count
+below-most map zero = omega arith
+below-most map (suc n) = go (not (present map n)) (below-most map n)
+  where
+    go : (b : Bool) → absentBelow n map ≤ n → cond b (suc (absentBelow n map)) (absentBelow n map) ≤ suc n
+    go true h = omega arith
+    go false h = omega arith
+
+-- an absent place below n is counted with those below it
+pub below-under : (map : List Bool) (t n : ℕ) → present map t ≡ false → t < n → absentBelow t map < absentBelow n map
+unfolding absentBelow count
+below-under map t zero e l = absurd (not-suc-le-zero l)
+below-under map t (suc n) e l = go (present map n) refl (below-under map t n e) (eq-or-lt-of-le (le-of-suc-le-suc l))
+  where
+    go : (b : Bool) → present map n ≡ b → (t < n → absentBelow t map < absentBelow n map) → (t ≡ n) ⊎ (t < n)
+        → absentBelow t map < cond (not b) (suc (absentBelow n map)) (absentBelow n map)
+    go true p ih (inl q) = absurd (let z : true ≡ false = sym p ∙ ap (present map) (sym q) ∙ e in let y : _≡_ {A = ℕ} 0 1 = cc in omega arith)
+    go true p ih (inr h) = ih h
+    go false p ih (inl q) = let x : absentBelow t map ≡ absentBelow n map = ap (λ i. absentBelow i map) q in omega arith
+    go false p ih (inr h) = let x = ih h in omega arith
+
+module _ {map : List Bool} {t : ℕ} where
+  -- no absent place comes to be number j
+  nth-kept : {j x : ℕ} → NthAbsent t j map x → absentBelow t map ≤ absentBelow (t + 1) map → (j < absentBelow (t + 1) map → j < absentBelow t map) → NthAbsent (t + 1) j map x
+  nth-kept {j} {x} n up old = record {
+    found = λ l. let f = n .found (old l) in (omega (arith, f .0), f .1, f .2);
+    none = λ l. n .none (omega arith);
+  }
+
+  -- place t comes to be it
+  nth-found : {j : ℕ} → present map t ≡ false → absentBelow t map ≡ j → NthAbsent (t + 1) j map t
+  nth-found {j} e n = record { found = λ l. (omega arith, e, n); none = λ l. absurd (let x = below-absent map t e in omega arith) }
+
+pub counts-none : (map : List Bool) → Counts 0 map (record { count = 0; first = 129; second = 129 })
+unfolding absentBelow count
+counts-none map = record {
+  count = refl;
+  first = record { found = λ l. absurd (omega arith); none = λ _. refl };
+  second = record { found = λ l. absurd (omega arith); none = λ _. refl };
+}
+
+module _ (map : List Bool) (t : ℕ) (g : Gaps) (c : Counts t map g) where
+  pub counts-present : present map t ≡ true → Counts (t + 1) map g
+  counts-present e =
+      let n = below-present map t e in
+      record { count = c .count ∙ sym n; first = nth-kept (c .first) (omega arith) (λ l. omega arith); second = nth-kept (c .second) (omega arith) (λ l. omega arith) }
+
+  module _ (e : present map t ≡ false) where
+    pub counts-first : g .count ≡ 0 → Counts (t + 1) map (record { count = 1; first = t; second = g .second })
+    counts-first z =
+        let n = below-absent map t e in
+        let m = c .count in
+        record { count = omega arith; first = nth-found e (omega arith); second = nth-kept (c .second) (omega arith) (λ l. omega arith) }
+
+    pub counts-second : g .count ≡ 1 → Counts (t + 1) map (record { count = 2; first = g .first; second = t })
+    counts-second z =
+        let n = below-absent map t e in
+        let m = c .count in
+        record { count = omega arith; first = nth-kept (c .first) (omega arith) (λ l. omega arith); second = nth-found e (omega arith) }
+
+    pub counts-more : 2 ≤ g .count → Counts (t + 1) map (record { count = g .count + 1; first = g .first; second = g .second })
+    counts-more z =
+        let n = below-absent map t e in
+        let m = c .count in
+        record { count = omega arith; first = nth-kept (c .first) (omega arith) (λ l. omega arith); second = nth-kept (c .second) (omega arith) (λ l. omega arith) }
