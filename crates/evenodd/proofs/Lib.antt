@@ -4,3 +4,4 @@ pub mod Shape
 pub mod Presence
 pub mod Shown
 pub mod Determined
+pub mod Stripe

@@ -3,4 +3,5 @@ pub mod Refusals
 pub mod Shapes
 pub mod Maps
 pub mod Shows
+pub mod Checks
 pub mod Determined

@@ -3,9 +3,11 @@
 --   Judges m k b r     what it says of three numbers: the bytes of a column, or the refusal
 --   refusalOf r        the refusal that is carried
 use mathlib.Core.Path.{_≡_}
-use mathlib.Core.List.{List, [], _∷_}
+use mathlib.Core.Logic.{_≢_}
+use mathlib.Core.List.{List, [], _∷_, _++_}
 use Prim.Native.Nat.{ℕ}
-use Rattle.parity.specs.Shape.{Shape, columnLength}
+use lib.ListN.{length}
+use Rattle.parity.specs.Shape.{Shape, columnLength, stripeLength}
 use Rattle.evenodd.specs.declared.shapes.Judged.{Judged}
 use Rattle.evenodd.specs.declared.shapes.Judged.the-variants.{Good, Refused}
 use Rattle.evenodd.specs.declared.shapes.Refusal.{Refusal}
@@ -14,6 +16,10 @@ use Rattle.evenodd.specs.Refusals.{Verdict, pass, refuse, Rule, Gives}
 
 abbrev pub shapeRules : ℕ → ℕ → ℕ → List Rule
 shapeRules m k b = record { condition = Shape m k b → ⊥; refusal = refusal.Shape } ∷ []
+
+-- the rules of encode and check, which mend's begin with too: 1, 2
+abbrev pub stripeRules : ℕ → ℕ → ℕ → List ℕ → List Rule
+stripeRules m k b s = shapeRules m k b ++ (record { condition = length s ≢ stripeLength m k b; refusal = refusal.StripeLength } ∷ [])
 
 abbrev pub judged : Judged → Verdict
 judged (Good c) = pass

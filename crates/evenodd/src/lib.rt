@@ -1,9 +1,12 @@
 // Stripes kept in the EVENODD code: encode, check, show, restore and mend. Nothing here asks anything of its caller: bad input is
 // refused by number, and a refused call changes no byte that was lent.
+mod checking;
 mod maps;
 mod shapes;
 mod showing;
 
+pub use checking::Checked;
+pub use checking::check;
 pub use maps::Gaps;
 pub use maps::Map;
 pub use maps::Marked;
