@@ -3,5 +3,9 @@ pub mod Refusals
 pub mod Shapes
 pub mod Maps
 pub mod Shows
+pub mod Encodes
 pub mod Checks
+pub mod Restores
+pub mod Mends
 pub mod Determined
+pub mod EndToEnd

@@ -1,15 +1,21 @@
 // Stripes kept in the EVENODD code: encode, check, show, restore and mend. Nothing here asks anything of its caller: bad input is
 // refused by number, and a refused call changes no byte that was lent.
 mod checking;
+mod encoding;
 mod maps;
+mod mending;
+mod restoring;
 mod shapes;
 mod showing;
 
 pub use checking::Checked;
 pub use checking::check;
+pub use encoding::Encoded;
 pub use maps::Gaps;
 pub use maps::Map;
 pub use maps::Marked;
+pub use mending::Mended;
+pub use restoring::Restored;
 pub use shapes::Judged;
 pub use shapes::Refusal;
 pub use shapes::judge;

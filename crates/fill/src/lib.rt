@@ -9,8 +9,21 @@ ghost use Rattle.lines.specs.Lines.{span, Sized, Crosses};
 ghost use Rattle.fill.specs.Fill.{seedOf, Lined, BothAdded};
 use lines::Grid;
 
-// acc becomes the lanes from j on of a seed plus line i over the columns from t0 up to t1. The seed is the cell `seed`, of which an
-// empty one is zero, or, where the cell is not set afresh, the cell of w at `at`.
+// acc becomes the lanes from j on of what the cell of w at `at` starts from: the cell `seed`, of which an empty one is zero, or, where
+// it is not set afresh, what it holds.
+fn take_seed(acc: &mut [u8], w: &[u8], seed: &[u8], fresh: bool, g: Grid, at: usize, j: usize)
+    requires { ⌜ (0 < length (now seed) → g .b ≤ length (now seed)) × (at + g .b ≤ length (now w)) × (j + length (now acc) ≤ g .b) ⌝ }
+    ensures { λ _. ⌜ Put (now (acc .entry)) (now (acc .exit)) 0 (length (now (acc .entry))) (λ l. seedOf fresh (now (seed .entry)) (now (w .entry)) at (j + l)) ⌝ }
+{
+    if fresh {
+        lines::start(acc, seed, j);
+    } else {
+        let b = g.b;
+        lines::start(acc, &w[at..at + b], j);
+    }
+}
+
+// acc becomes the lanes from j on of the seed plus line i over the columns from t0 up to t1.
 fn gather(
     acc: &mut [u8],
     w: &[u8],
@@ -28,12 +41,8 @@ fn gather(
     requires { ⌜ (0 < length (now seed) → g .b ≤ length (now seed)) × (at + g .b ≤ length (now w)) × (j + length (now acc) ≤ g .b) × Sized (g .m) (g .b) (g .column) × Crosses (g .m) (g .column) (length (now s)) slant i t0 t1 ⌝ }
     ensures { λ _. ⌜ Put (now (acc .entry)) (now (acc .exit)) 0 (length (now (acc .entry))) (λ l. seedOf fresh (now (seed .entry)) (now (w .entry)) at (j + l) ⊕ span (g .m) (lane (g .m) (g .b) (now (s .entry)) (j + l)) slant i t0 t1) ⌝ }
 {
-    if fresh {
-        lines::sum_part(acc, seed, s, g, slant, i, t0, t1, j);
-    } else {
-        let b = g.b;
-        lines::sum_part(acc, &w[at..at + b], s, g, slant, i, t0, t1, j);
-    }
+    take_seed(acc, w, seed, fresh, g, at, j);
+    lines::add_span(acc, s, g, slant, i, t0, t1, j);
 }
 
 // The lanes from j on of the cell at `at`, as many as acc has, become the seed plus the line. acc is room for them.

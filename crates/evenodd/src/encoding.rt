@@ -1,0 +1,8 @@
+// Encode.
+use crate::shapes::Refusal;
+
+// What encode answers.
+pub enum Encoded {
+    Done,
+    Refused(Refusal),
+}
