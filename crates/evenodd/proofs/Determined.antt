@@ -11,19 +11,15 @@ use denote.Ref.{RefT, now}
 use lib.Dec.{eqb}
 use Rattle.evenodd.specs.declared.maps.Marked.the-variants as marked
 use Rattle.evenodd.specs.declared.shapes.Judged.the-variants as judged
-use Rattle.evenodd.specs.declared.shapes.Refusal.{Refusal}
 use Rattle.evenodd.specs.declared.showing.Place.{Place}
 use Rattle.evenodd.specs.declared.showing.Place.the-variants.{InStripe, InBench, Refused}
-use Rattle.evenodd.specs.Refusals.{Verdict, refuse, Gives}
+use Rattle.evenodd.specs.Refusals.{Verdict, Gives}
 use Rattle.evenodd.specs.Shapes.{shapeRules}
 use Rattle.evenodd.specs.Maps.{placeRules}
 use Rattle.evenodd.specs.Shows.{showRules, Places, PartOf, PartAt}
 use Rattle.evenodd.specs.Determined.{JudgesOne, NewOne, MarksOne, MarkedTwice, JudgesPlaceOne, PlacesOne, SamePart, ShowsOne, PlacesUnread, ShowsUnread}
-use Rattle.evenodd.proofs.Rules.{passes-not, gives-one}
+use Rattle.evenodd.proofs.Rules.{passes-not, refuse-one, gives-one}
 use Rattle.evenodd.proofs.Presence.{same-map}
-
-refuse-one : (f g : Refusal) → refuse f ≡ refuse g → f ≡ g
-refuse-one f g e = cc
 
 pub judges-one : JudgesOne
 unfolding JudgesOne

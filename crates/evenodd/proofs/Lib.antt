@@ -5,3 +5,4 @@ pub mod Presence
 pub mod Shown
 pub mod Determined
 pub mod Stripe
+pub mod Outcomes

@@ -2,11 +2,13 @@
 --   gives-first, gives-next     the first rule's condition holds; it does not, and the others give the verdict
 --   passes-not                  a pass is no refusal
 --   passed-first, equal-of      a list of rules passes: the first rule's condition fails, and the others pass
+--   passes-not, refuse-one      a pass is no refusal, and one refusal is no other
 --   gives-one                   a list of rules gives one verdict
 --   gives-refused, gives-after  of two lists in a row: the first refuses; it passes, and the second gives the verdict
+--   Alike, gives-alike          two lists whose conditions say the same give the same
 --   gives-passed                two lists in a row pass: each does
-use mathlib.Core.Path.{_≡_, refl, sym, _∙_}
-use mathlib.Core.Logic.{_≢_, _⊎_, inl, inr, by-cases}
+use mathlib.Core.Path.{_≡_, refl, sym, ap, _∙_}
+use mathlib.Core.Logic.{_≢_, _⊎_, inl, inr, by-cases, _↔_}
 use mathlib.Core.List.{List, [], _∷_, _++_}
 use Prim.Native.Nat.{ℕ}
 use native.Mathlib.Decide.{ℕ-discrete}
@@ -16,6 +18,9 @@ use Rattle.evenodd.specs.Refusals.{Verdict, pass, refuse, Rule, Gives}
 
 pub passes-not : (f : Refusal) → pass ≡ refuse f → ⊥
 passes-not f e = let z : _≡_ {A = ℕ} 0 1 = cc in omega arith
+
+pub refuse-one : (f g : Refusal) → refuse f ≡ refuse g → f ≡ g
+refuse-one f g e = cc
 
 -- these three are stated in the form to which `Gives (rule ∷ rules) v` computes
 pub gives-first : {C R : Type 0} {f : Refusal} → C → (C × (refuse f ≡ refuse f)) ⊎ R
@@ -53,3 +58,17 @@ pub gives-passed : (rules more : List Rule) → Gives (rules ++ more) pass → G
 gives-passed [] more g = (refl, g)
 gives-passed (r ∷ rules) more (inl p) = absurd (passes-not (r .refusal) (p .1))
 gives-passed (r ∷ rules) more (inr p) = let (first, second) = gives-passed rules more (p .1) in (inr (p .0, first), second)
+
+-- two lists whose conditions say the same give the same
+abbrev pub Alike : List Rule → List Rule → Type 0
+Alike [] [] = Unit {0}
+Alike [] (q ∷ qs) = ⊥
+Alike (r ∷ rs) [] = ⊥
+Alike (r ∷ rs) (q ∷ qs) = (r .condition ↔ q .condition) × (r .refusal ≡ q .refusal) × Alike rs qs
+
+pub gives-alike : (rules more : List Rule) (v : Verdict) → Alike rules more → Gives rules v → Gives more v
+gives-alike [] [] v a g = g
+gives-alike [] (q ∷ qs) v a g = absurd a
+gives-alike (r ∷ rs) [] v a g = absurd a
+gives-alike (r ∷ rs) (q ∷ qs) v a (inl p) = inl (a .0 .0 (p .0), p .1 ∙ ap refuse (a .1))
+gives-alike (r ∷ rs) (q ∷ qs) v a (inr p) = inr (λ c. p .0 (a .0 .1 c), gives-alike rs qs v (a .2) (p .1))

@@ -1,5 +1,5 @@
 -- What mend answers and leaves.
---   mendRules     its refusals, in order: 1, 2, 6
+--   mendRules     its refusals, in order: 1, 2, 6; blameRules: the last
 --   Mends         intact: the stripe is valid and nothing is written; mended: the stripe is now a valid one that differed in exactly that
 --                 column; refused: nothing is written
 use mathlib.Core.Path.{_≡_}
@@ -14,11 +14,11 @@ use Rattle.evenodd.specs.declared.shapes.Refusal.the-variants.{Unmendabl
 use Rattle.evenodd.specs.Refusals.{Verdict, pass, refuse, Rule, Gives}
 use Rattle.evenodd.specs.Shapes.{stripeRules}
 
+abbrev pub blameRules : ℕ → ℕ → ℕ → List ℕ → List Rule
+blameRules m k b s = record { condition = (v : List ℕ) → Valid m k b v → differing m k b s v ≤ 1 → ⊥; refusal = Unmendable } ∷ []
+
 abbrev pub mendRules : ℕ → ℕ → ℕ → List ℕ → List Rule
-mendRules m k b s =
-    stripeRules m k b s
-    ++ (record { condition = (v : List ℕ) → Valid m k b v → differing m k b s v ≤ 1 → ⊥; refusal = Unmendable }
-    ∷ [])
+mendRules m k b s = stripeRules m k b s ++ blameRules m k b s
 
 abbrev pub verdictOf : Mended → Verdict
 verdictOf mended.Intact = pass

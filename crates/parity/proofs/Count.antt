@@ -4,15 +4,18 @@
 --   all-fail         and the other way round
 --   last-pass        the highest number below n that passes, and the count of those below it
 --   one-pass         a count of at most one: every number below n but one fails
+--   one-equal        at most one number equals another
 --   some-false, false-some   none passes, said number by number
 --   some-true        a number that passes
 use mathlib.Core.Path.{_≡_, refl, ap, ap₂, _∙_}
-use mathlib.Core.Logic.{_≢_, _⊎_, inl, inr}
+use mathlib.Core.Logic.{_≢_, _⊎_, inl, inr, by-cases}
 use mathlib.Core.Bool.{Bool, true, false, cond, _||_, false≢true}
 use Prim.Native.Nat.{ℕ, zero, suc, _≤_, _<_}
 use native.Mathlib.Nat.{le-step, lt-suc-self, eq-or-lt-of-le, le-of-suc-le-suc, not-suc-le-zero}
-use native.Mathlib.Decide.{decLt}
+use native.Mathlib.Decide.{decLt, ℕ-discrete}
 use native.Mathlib.Omega.{arith}
+use lib.Dec.{eqb}
+use borrow.Author.Tests.{eq-eqb, ne-eqb}
 use Rattle.parity.specs.Sum.{count, some}
 
 pub count-cong : (n : ℕ) {f g : ℕ → Bool} → ((t : ℕ) → t < n → f t ≡ g t) → count n f ≡ count n g
@@ -68,6 +71,14 @@ one-pass n f pos few = elim (decLt 0 (count n f)) [
     λ t l ne. elim (decLt t (r .at)) [ yes c ↦ none-pass (r .at) f (let x = r .left in omega arith) t c | no c ↦ r .above t (omega arith) l ],
   )
 ]
+
+-- at most one number equals u
+pub one-equal : (n u : ℕ) → count n (eqb u) ≤ 1
+unfolding count
+one-equal zero u = omega arith
+one-equal (suc n) u = by-cases (ℕ-discrete u n)
+    (λ e. rw (eq-eqb u n e, all-fail n (eqb u) (λ t l. ne-eqb u t (λ q. omega arith))) (omega arith))
+    (λ ne. rw (ne-eqb u n ne) (one-equal n u))
 
 pub some-cong : (n : ℕ) {f g : ℕ → Bool} → ((t : ℕ) → t < n → f t ≡ g t) → some n f ≡ some n g
 unfolding some

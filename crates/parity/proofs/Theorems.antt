@@ -1,7 +1,7 @@
 -- What follows from the equations, for every shape: the statements of specs/Theorems. A prime enters in `served` alone.
-use mathlib.Core.Path.{_≡_, sym, ap, _∙_}
+use mathlib.Core.Path.{_≡_, refl, sym, ap, _∙_}
 use mathlib.Core.Logic.{_≢_}
-use mathlib.Core.Bool.{Bool, true, false, not}
+use mathlib.Core.Bool.{Bool, true, false, not, true≢false}
 use mathlib.Core.List.{List}
 use Prim.Native.Nat.{ℕ, _+_, _-_, _≤_, _<_}
 use native.Mathlib.Decide.{decLt, ℕ-discrete}
@@ -17,13 +17,12 @@ use Rattle.parity.specs.Presence.{present, absences, differs, differing,
 use Rattle.parity.specs.Theorems.{Distance, AtMostOne, ExactlyOne, NeverOne, AbsentUnread, OneWrong, IntactIsValid}
 use Rattle.parity.specs.Numbers.{Numbers}
 use Rattle.parity.proofs.Xor.{⊕-self, ⊕-eq}
-use Rattle.parity.proofs.Count.{none-pass, all-fail, Last, last-pass, some-false, false-some}
+use Rattle.parity.proofs.Count.{count-cong, one-equal, none-pass, all-fail, Last, last-pass, some-false, false-some}
 use Rattle.parity.proofs.Columns.{not-false, same-column, column-same, other-way, cover}
 use Rattle.parity.proofs.Prime.{inverse}
 use Rattle.parity.proofs.Table.{table}
 use Rattle.parity.proofs.Numbers.{numbers-given}
 use Rattle.parity.proofs.Balance.{Frame, Served}
-use Rattle.parity.proofs.Bytes.{stripe-ext}
 use Rattle.parity.proofs.Stripes.{Alike, stripe-determined, stripe-completed, stripe-second}
 
 pub frame : (m k b : ℕ) → Shape m k b → Frame m k
@@ -46,7 +45,7 @@ apart f t u p q e = let z : true ≡ false = sym p ∙ sym (ap f e) ∙ q in let
 
 module _ (m k b : ℕ) (h : Shape m k b) where
   -- valid stripes that differ in at most two columns are one
-  near : (s v : List ℕ) → Valid m k b s → Valid m k b v → differing m k b s v ≤ 2 → s ≡ v
+  pub near : (s v : List ℕ) → Valid m k b s → Valid m k b v → differing m k b s v ≤ 2 → s ≡ v
   unfolding differing
   near s v vs vv few =
       let r = cover k (differs m b s v) few in
@@ -162,18 +161,11 @@ module _ (m k b : ℕ) (h : Shape m k b) (s u v : List ℕ) (vu : Valid m k b u)
       stripe-determined m k b (frame m k b h) (h .filled) x y (served m k b h x y less hy) u v vu vv
       (record { at = λ l i t hl hi ht nx ny. let e = same t ht nx ny l i hl hi in sym (e .0) ∙ e .1 })
 
-  -- if columns x < y are both to blame, none is
-  not-both : (x y : ℕ) → x < y → y < k + 2 → Stripe m k b s → DifferIn m k b (eqb x) s u → DifferIn m k b (eqb y) s v → Valid m k b s
-  not-both x y less hy st du dv = rw (stripe-ext m k b (h .value .prime .big) (h .filled) s u (st .whole) (vu .stripe .whole) same) vu
-    where
-      one-stripe : u ≡ v
-      one-stripe = one-content x y less hy (λ t ht nx ny l i hl hi. (elsewhere m k b s u x du t ht nx l i hl hi, elsewhere m k b s v y dv t ht ny l i hl hi))
-
-      same : (l i t : ℕ) → l < b → i < m - 1 → t < k + 2 → byte m b s l i t ≡ byte m b u l i t
-      same l i t hl hi ht = elim (ℕ-discrete t x) [
-        | yes q ↦ elsewhere m k b s v y dv t ht (λ p. omega arith) l i hl hi ∙ ap (λ q. byte m b q l i t) (sym one-stripe)
-        | no q ↦ elsewhere m k b s u x du t ht q l i hl hi
-      ]
+  -- columns x < y can't both be to blame: the two valid stripes would be one, which differs from s in column x and does not
+  not-both : (x y : ℕ) → x < y → y < k + 2 → DifferIn m k b (eqb x) s u → DifferIn m k b (eqb y) s v → ⊥
+  not-both x y less hy du dv =
+      let one-stripe : u ≡ v = one-content x y less hy (λ t ht nx ny l i hl hi. (elsewhere m k b s u x du t ht nx l i hl hi, elsewhere m k b s v y dv t ht ny l i hl hi)) in
+      true≢false (sym (eq-eqb x x refl) ∙ sym (du .at x (omega arith)) ∙ ap (λ q. differs m b s q x) one-stripe ∙ dv .at x (omega arith) ∙ ne-eqb y x (λ e. omega arith))
 
   -- one column, one content
   same-blame : (x : ℕ) → x < k + 2 → DifferIn m k b (eqb x) s u → DifferIn m k b (eqb x) s v → u ≡ v
@@ -187,13 +179,18 @@ module _ (m k b : ℕ) (h : Shape m k b) (s u v : List ℕ) (vu : Valid m k b u)
 
 pub one-wrong : OneWrong
 unfolding OneWrong
-one-wrong m k b h s st broken u v x y hx hy vu vv du dv = elim (ℕ-discrete x y) [
+one-wrong m k b h s u v x y hx hy vu vv du dv = elim (ℕ-discrete x y) [
   | yes e ↦ (e, same-blame m k b h s u v vu vv x hx du (rw e dv))
   | no e ↦ elim (decLt x y) [
-    | yes l ↦ absurd (broken (not-both m k b h s u v vu vv x y l hy st du dv))
-    | no l ↦ absurd (broken (not-both m k b h s v u vv vu y x (other-way x y e l) hx st dv du))
+    | yes l ↦ absurd (not-both m k b h s u v vu vv x y l hy du dv)
+    | no l ↦ absurd (not-both m k b h s v u vv vu y x (other-way x y e l) hx dv du)
   ]
 ]
+
+-- stripes that differ in exactly one column differ in at most one
+pub few-differ : (m k b u : ℕ) (s v : List ℕ) → DifferIn m k b (eqb u) s v → differing m k b s v ≤ 1
+unfolding differing
+few-differ m k b u s v d = rw (count-cong (k + 2) (d .at)) (one-equal (k + 2) u)
 
 -- ---- the counts
 

@@ -36,10 +36,9 @@ NeverOne = (m k b : ℕ) → Shape m k b → (map : List Bool) → 3 ≤ absence
 unfoldable pub AbsentUnread : Type 0
 AbsentUnread = (m k b : ℕ) (map : List Bool) (s r : List ℕ) → Agrees m k b map s r → (v : List ℕ) → Agrees m k b map s v ↔ Agrees m k b map r v
 
--- Of a stripe that is not valid at most one column, one for all bytes of a cell, can be rewritten to make it valid, and in one way.
+-- At most one column, one for all bytes of a cell, can be rewritten to make a stripe valid, and in one way.
 unfoldable pub OneWrong : Type 0
-OneWrong = (m k b : ℕ) → Shape m k b → (s : List ℕ) → Stripe m k b s → (Valid m k b s → ⊥)
-    → (u v : List ℕ) (x y : ℕ) → x < k + 2 → y < k + 2 → Valid m k b u → Valid m k b v
+OneWrong = (m k b : ℕ) → Shape m k b → (s u v : List ℕ) (x y : ℕ) → x < k + 2 → y < k + 2 → Valid m k b u → Valid m k b v
     → DifferIn m k b (eqb x) s u → DifferIn m k b (eqb y) s v → (x ≡ y) × (u ≡ v)
 
 -- A stripe is intact exactly when it is valid.
