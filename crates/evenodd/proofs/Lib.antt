@@ -6,3 +6,4 @@ pub mod Shown
 pub mod Determined
 pub mod Stripe
 pub mod Outcomes
+pub mod EndToEnd

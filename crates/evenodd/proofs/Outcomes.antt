@@ -74,8 +74,8 @@ checks-one m k b s (checked.Refused f) (checked.Refused g) p q = ap checked.Refu
 nth-one : (n j : ℕ) (map : List Bool) (t u : ℕ) → NthAbsent n j map t → NthAbsent n j map u → t ≡ u
 nth-one n j map t u p q = by-cases (decLt j (absentBelow n map))
     (λ l. let x = p .found l in let y = q .found l in
-      by-cases (decLt t u) (λ c. absurd (let z = below-under map t u (x .1) c in omega (arith, x .2, y .2)))
-      (λ c. by-cases (decLt u t) (λ d. absurd (let z = below-under map u t (y .1) d in omega (arith, x .2, y .2))) (λ d. omega arith)))
+    by-cases (decLt t u) (λ c. absurd (let z = below-under map t u (x .1) c in omega (arith, x .2, y .2)))
+    (λ c. by-cases (decLt u t) (λ d. absurd (let z = below-under map u t (y .1) d in omega (arith, x .2, y .2))) (λ d. omega arith)))
     (λ l. p .none (omega arith) ∙ sym (q .none (omega arith)))
 
 -- what restore's rules say where they pass
@@ -130,12 +130,25 @@ restores-unread m k b map s other bench x r p e a = record { told = gives-alike 
 
     same : Alike (restoreRules m k b map s bench) (restoreRules m k b map other bench)
     same = (
-      (λ c. c, λ c. c), refl,
-      ((λ c d. c (sym e ∙ d), λ c d. c (e ∙ d)), refl,
-      ((λ c. c, λ c. c), refl,
-      ((λ c. c, λ c. c), refl,
-      ((λ c. c, λ c. c), refl,
-      ((λ c v vv av. c v vv (agrees v .1 av), λ c v vv av. c v vv (agrees v .0 av)), refl, tt))))),
+      (λ c. c, λ c. c),
+      refl,
+      (
+        (λ c d. c (sym e ∙ d), λ c d. c (e ∙ d)),
+        refl,
+        (
+          (λ c. c, λ c. c),
+          refl,
+          (
+            (λ c. c, λ c. c),
+            refl,
+            (
+              (λ c. c, λ c. c),
+              refl,
+              ((λ c v vv av. c v vv (agrees v .1 av), λ c v vv av. c v vv (agrees v .0 av)), refl, tt),
+            ),
+          ),
+        ),
+      ),
     )
 
     left : (r : Restored) → Left m k b (map .places) s bench x r → Left m k b (map .places) other bench x r
@@ -156,7 +169,7 @@ pub mend-shape : (m k b : ℕ) (s : List ℕ) → Gives (mendRules m k b s) pass
 mend-shape m k b s g = stripe-given m k b s (gives-passed (stripeRules m k b s) (blameRules m k b s) g .0) .0
 
 -- a valid stripe does not differ from a valid one in exactly one column
-not-one : (m k b : ℕ) → Shape m k b → (s x : List ℕ) (u : ℕ) → u < k + 2 → Valid m k b s → Valid m k b x → DifferIn m k b (eqb u) s x → ⊥
+pub not-one : (m k b : ℕ) → Shape m k b → (s x : List ℕ) (u : ℕ) → u < k + 2 → Valid m k b s → Valid m k b x → DifferIn m k b (eqb u) s x → ⊥
 not-one m k b h s x u hu vs vx d =
     let e : s ≡ x = near m k b h s x vs vx (let l = few-differ m k b u s x d in omega arith) in
     true≢false (sym (eq-eqb u u refl) ∙ sym (d .at u hu) ∙ ap (λ q. differs m b s q u) (sym e) ∙ column-same m b s s u (λ l i hl hi. refl))

@@ -4,7 +4,7 @@
 --   all-fail         and the other way round
 --   last-pass        the highest number below n that passes, and the count of those below it
 --   one-pass         a count of at most one: every number below n but one fails
---   one-equal        at most one number equals another
+--   few-pass         all but one fail: at most one passes
 --   some-false, false-some   none passes, said number by number
 --   some-true        a number that passes
 use mathlib.Core.Path.{_≡_, refl, ap, ap₂, _∙_}
@@ -72,13 +72,17 @@ one-pass n f pos few = elim (decLt 0 (count n f)) [
   )
 ]
 
--- at most one number equals u
-pub one-equal : (n u : ℕ) → count n (eqb u) ≤ 1
+-- all but one fail: at most one passes
+pub few-pass : (n u : ℕ) (f : ℕ → Bool) → ((t : ℕ) → t < n → t ≢ u → f t ≡ false) → count n f ≤ 1
 unfolding count
-one-equal zero u = omega arith
-one-equal (suc n) u = by-cases (ℕ-discrete u n)
-    (λ e. rw (eq-eqb u n e, all-fail n (eqb u) (λ t l. ne-eqb u t (λ q. omega arith))) (omega arith))
-    (λ ne. rw (ne-eqb u n ne) (one-equal n u))
+few-pass zero u f h = omega arith
+few-pass (suc n) u f h = by-cases (ℕ-discrete n u)
+    (λ e. rw (all-fail n f (λ t l. h t (le-step l) (λ q. omega arith))) (go (f n)))
+    (λ ne. rw (h n (lt-suc-self n) ne) (few-pass n u f (λ t l. h t (le-step l))))
+  where
+    go : (b : Bool) → cond {A = ℕ} b 1 0 ≤ 1
+    go true = omega arith
+    go false = omega arith
 
 pub some-cong : (n : ℕ) {f g : ℕ → Bool} → ((t : ℕ) → t < n → f t ≡ g t) → some n f ≡ some n g
 unfolding some

@@ -17,7 +17,7 @@ use Rattle.parity.specs.Presence.{present, absences, differs, differing,
 use Rattle.parity.specs.Theorems.{Distance, AtMostOne, ExactlyOne, NeverOne, AbsentUnread, OneWrong, IntactIsValid}
 use Rattle.parity.specs.Numbers.{Numbers}
 use Rattle.parity.proofs.Xor.{⊕-self, ⊕-eq}
-use Rattle.parity.proofs.Count.{count-cong, one-equal, none-pass, all-fail, Last, last-pass, some-false, false-some}
+use Rattle.parity.proofs.Count.{few-pass, none-pass, all-fail, Last, last-pass, some-false, false-some}
 use Rattle.parity.proofs.Columns.{not-false, same-column, column-same, other-way, cover}
 use Rattle.parity.proofs.Prime.{inverse}
 use Rattle.parity.proofs.Table.{table}
@@ -190,7 +190,7 @@ one-wrong m k b h s u v x y hx hy vu vv du dv = elim (ℕ-discrete x y) [
 -- stripes that differ in exactly one column differ in at most one
 pub few-differ : (m k b u : ℕ) (s v : List ℕ) → DifferIn m k b (eqb u) s v → differing m k b s v ≤ 1
 unfolding differing
-few-differ m k b u s v d = rw (count-cong (k + 2) (d .at)) (one-equal (k + 2) u)
+few-differ m k b u s v d = few-pass (k + 2) u (differs m b s v) (λ t ht ne. d .at t ht ∙ ne-eqb u t (λ e. ne (sym e)))
 
 -- ---- the counts
 
