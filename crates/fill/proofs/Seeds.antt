@@ -1,5 +1,4 @@
--- Laws of `seedOf`, and of a cell that is filled from its seed lane after lane.
---   seed-fresh, seed-kept   what a cell starts from, by case
+-- A cell that is filled from its seed lane after lane.
 --   fill-more               after the first j lanes, the next n, which still start from what they held
 use mathlib.Core.Path.{_≡_, refl, ap}
 use mathlib.Core.Bool.{Bool, true, false}
@@ -11,14 +10,6 @@ use Rattle.parity.specs.Xor.{_⊕_}
 use Rattle.cells.specs.Runs.{Put}
 use Rattle.cells.proofs.Puts.{put-next}
 use Rattle.fill.specs.Fill.{seedOf}
-
-pub seed-fresh : {fresh : Bool} (seed w : List ℕ) (at l : ℕ) → fresh ≡ true → seedOf fresh seed w at l ≡ getD seed l 0
-unfolding seedOf
-seed-fresh seed w at l e = rw e
-
-pub seed-kept : {fresh : Bool} (seed w : List ℕ) (at l : ℕ) → fresh ≡ false → seedOf fresh seed w at l ≡ getD w (at + l) 0
-unfolding seedOf
-seed-kept seed w at l e = rw e
 
 seed-same : (fresh : Bool) (seed w u : List ℕ) (at l : ℕ) → getD w (at + l) 0 ≡ getD u (at + l) 0 → seedOf fresh seed w at l ≡ seedOf fresh seed u at l
 unfolding seedOf

@@ -1,17 +1,13 @@
 -- What becomes of the cells of a buffer that lines of a stripe are set in, or added to.
---   seedOf fresh seed w at l   what lane l of the cell at `at` starts from: the cell `seed` where it is set afresh, what it holds where not
 --   Lined n b at w v f         v is w, but that of the n cells from `at` on cell r holds f r l at lane l
 --   BothAdded m b w v f g      v is w, of two columns, with f r l and g r l added at lane l of row r in the first and in the second
 use mathlib.Core.Path.{_≡_}
-use mathlib.Core.Bool.{Bool, cond}
 use mathlib.Core.List.{List}
 use Prim.Native.Nat.{ℕ, _+_, _-_, _*_, _≤_, _<_}
 use lib.ListN.{length, getD}
+unfoldable pub use Rattle.lines.specs.Lines.{seedOf}
 use Rattle.parity.specs.Xor.{_⊕_}
 use Rattle.parity.specs.Stripe.{lane}
-
-unfoldable pub seedOf : Bool → List ℕ → List ℕ → ℕ → ℕ → ℕ
-seedOf fresh seed w at l = cond fresh (getD seed l 0) (getD w (at + l) 0)
 
 pub record Lined (n b at : ℕ) (w v : List ℕ) (f : ℕ → ℕ → ℕ) : Type 0 where
   pub size : length v ≡ length w

@@ -9,42 +9,6 @@ ghost use Rattle.lines.specs.Lines.{span, Sized, Crosses};
 ghost use Rattle.fill.specs.Fill.{seedOf, Lined, BothAdded};
 use lines::Grid;
 
-// acc becomes the lanes from j on of what the cell of w at `at` starts from: the cell `seed`, of which an empty one is zero, or, where
-// it is not set afresh, what it holds.
-fn take_seed(acc: &mut [u8], w: &[u8], seed: &[u8], fresh: bool, g: Grid, at: usize, j: usize)
-    requires { ⌜ (0 < length (now seed) → g .b ≤ length (now seed)) × (at + g .b ≤ length (now w)) × (j + length (now acc) ≤ g .b) ⌝ }
-    ensures { λ _. ⌜ Put (now (acc .entry)) (now (acc .exit)) 0 (length (now (acc .entry))) (λ l. seedOf fresh (now (seed .entry)) (now (w .entry)) at (j + l)) ⌝ }
-{
-    if fresh {
-        lines::start(acc, seed, j);
-    } else {
-        let b = g.b;
-        lines::start(acc, &w[at..at + b], j);
-    }
-}
-
-// acc becomes the lanes from j on of the seed plus line i over the columns from t0 up to t1.
-fn gather(
-    acc: &mut [u8],
-    w: &[u8],
-    seed: &[u8],
-    fresh: bool,
-    s: &[u8],
-    g: Grid,
-    slant: usize,
-    i: usize,
-    t0: usize,
-    t1: usize,
-    at: usize,
-    j: usize,
-)
-    requires { ⌜ (0 < length (now seed) → g .b ≤ length (now seed)) × (at + g .b ≤ length (now w)) × (j + length (now acc) ≤ g .b) × Sized (g .m) (g .b) (g .column) × Crosses (g .m) (g .column) (length (now s)) slant i t0 t1 ⌝ }
-    ensures { λ _. ⌜ Put (now (acc .entry)) (now (acc .exit)) 0 (length (now (acc .entry))) (λ l. seedOf fresh (now (seed .entry)) (now (w .entry)) at (j + l) ⊕ span (g .m) (lane (g .m) (g .b) (now (s .entry)) (j + l)) slant i t0 t1) ⌝ }
-{
-    take_seed(acc, w, seed, fresh, g, at, j);
-    lines::add_span(acc, s, g, slant, i, t0, t1, j);
-}
-
 // The lanes from j on of the cell at `at`, as many as acc has, become the seed plus the line. acc is room for them.
 fn fill_part(
     acc: &mut [u8],
@@ -63,7 +27,7 @@ fn fill_part(
     requires { ⌜ (0 < length (now seed) → g .b ≤ length (now seed)) × (at + g .b ≤ length (now w)) × (j + length (now acc) ≤ g .b) × Sized (g .m) (g .b) (g .column) × Crosses (g .m) (g .column) (length (now s)) slant i t0 t1 ⌝ }
     ensures { λ _. ⌜ Put (now (w .entry)) (now (w .exit)) (at + j) (length (now (acc .entry))) (λ l. seedOf fresh (now (seed .entry)) (now (w .entry)) at (j + l) ⊕ span (g .m) (lane (g .m) (g .b) (now (s .entry)) (j + l)) slant i t0 t1) ⌝ }
 {
-    gather(acc, w, seed, fresh, s, g, slant, i, t0, t1, at, j);
+    lines::gather(acc, w, seed, fresh, s, g, slant, i, t0, t1, at, j);
     let p = at + j;
     cells::copy_into(&mut w[p..p + acc.len()], acc);
 }
@@ -202,17 +166,6 @@ pub fn fill_rows(
     }
 }
 
-// Where a group of at most eight columns that begins at t ends.
-fn group_end(t: usize, t1: usize) -> usize
-    requires { ⌜ (t < t1) × (t1 ≤ 129) ⌝ }
-    ensures { λ e. ⌜ (t < e) × (e ≤ t1) × (e ≤ t + 8) ⌝ }
-{
-    if t + 8 < t1 {
-        return t + 8;
-    }
-    t1
-}
-
 // The same as fill_rows, in groups of at most eight columns, so that few streams are read at once.
 pub fn fill_lines(
     w: &mut [u8],
@@ -230,7 +183,7 @@ pub fn fill_lines(
 {
     let mut t = t0;
     while t < t1 {
-        let e = group_end(t, t1);
+        let e = lines::group_end(t, t1);
         fill_rows(w, at, s, g, slant, shift, rows, t, e);
         t = e;
     }
@@ -255,7 +208,7 @@ pub fn fill_both(w: &mut [u8], s: &[u8], g: Grid, v: usize, t0: usize, t1: usize
 {
     let mut t = t0;
     while t < t1 {
-        let e = group_end(t, t1);
+        let e = lines::group_end(t, t1);
         fill_two(w, s, g, v, t, e);
         t = e;
     }

@@ -4,11 +4,13 @@
 --   cell-set       the cell itself
 --   other-row      the other cells of its column
 --   other-column   the cells of another column
+--   cell-kept      the cells of the first n columns, where all bytes of these are as they were
 use mathlib.Core.Path.{_≡_, ap, _∙_}
 use mathlib.Core.Logic.{_≢_}
 use mathlib.Core.List.{List}
 use Prim.Native.Nat.{ℕ, _+_, _*_, _-_, _≤_, _<_}
 use native.Mathlib.Omega.{arith}
+use lib.Arith.{digits-lt}
 use lib.ListN.{getD}
 use Rattle.parity.specs.Shape.{columnLength}
 use Rattle.parity.specs.Stripe.{byte, lane}
@@ -44,3 +46,8 @@ module _ (m b : ℕ) {s v : List ℕ} {p : ℕ} {f : ℕ → ℕ} (r t : ℕ) (a
   other-column hr l x y h hx ne = apart (lane m b v l x y ≡ lane m b s l x y) y t ne
       (λ e. q .before _ (omega (arith, parts-end (columnLength m b) e, cell-end m b x hx)))
       (λ e. q .after _ (omega (arith, parts-end (columnLength m b) e, cell-end m b r hr)))
+
+pub cell-kept : (m b n : ℕ) (s v : List ℕ) → ((p : ℕ) → p < n * columnLength m b → getD v p 0 ≡ getD s p 0)
+    → (l r t : ℕ) → l < b → r < m - 1 → t < n → lane m b v l r t ≡ lane m b s l r t
+unfolding byte columnLength
+cell-kept m b n s v kept l r t hl hr ht = kept (t * columnLength m b + (r * b + l)) (digits-lt ht (digits-lt hr hl))

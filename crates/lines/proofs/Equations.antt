@@ -4,17 +4,24 @@
 --   D-line      D of row i is S plus line i of slant 1
 --   line-same   a line over the first n columns depends on the bytes of those columns alone
 --   span-same   the same of a span
-use mathlib.Core.Path.{_≡_, sym, ap, _∙_}
+--   line-kept, span-kept   both in a stripe, where all bytes of its first n columns are as they were
+use mathlib.Core.Path.{_≡_, sym, ap, ap₂, _∙_}
+use mathlib.Core.List.{List}
 use Prim.Native.Nat.{ℕ, _*_, _-_, _≤_, _<_}
 use native.Mathlib.Nat.{zero-mul, one-mul}
+use native.Mathlib.Omega.{arith}
 use lib.Dec.{ltb, ltb→lt}
+use lib.ListN.{getD}
 use borrow.Author.Tests.{lt-ltb}
 use Rattle.parity.specs.Xor.{_⊕_}
+use Rattle.parity.specs.Shape.{columnLength}
 use Rattle.parity.specs.Equations.{Lane, cell, back, H, S, D}
+use Rattle.parity.specs.Stripe.{lane}
 use Rattle.parity.proofs.Sum.{sum-cong, sum-cut}
 use Rattle.parity.proofs.Cells.{diagonal, S-diagonal, cell-imaginary, when-same}
-use Rattle.lines.specs.Lines.{real, line}
+use Rattle.lines.specs.Lines.{real, line, span}
 use Rattle.lines.proofs.Lines.{back-none}
+use Rattle.lines.proofs.Cells.{cell-kept}
 
 module _ (m k : ℕ) (few : k ≤ m) (a : Lane) where
   cell-line : (i t : ℕ) → t < k → cell m k a i t ≡ real m a i t
@@ -46,3 +53,14 @@ module _ (m n : ℕ) (a b : Lane) (same : (i t : ℕ) → i < m - 1 → t < n �
   line-same e i = sum-cong n (λ t l.
       let r = back m i (e * t) in
       when-same (ltb r (m - 1)) (a r t) (b r t) (λ h. same r t (ltb→lt r (m - 1) h) l))
+
+pub span-same : (m x y : ℕ) (a b : Lane) → ((i t : ℕ) → i < m - 1 → t < y → a i t ≡ b i t) → x ≤ y → (e i : ℕ) → span m a e i x y ≡ span m b e i x y
+unfolding span
+span-same m x y a b same h e i = ap₂ _⊕_ (line-same m x a b (λ r t hr ht. same r t hr (omega arith)) e i) (line-same m y a b same e i)
+
+module _ (m b n : ℕ) (s v : List ℕ) (kept : (p : ℕ) → p < n * columnLength m b → getD v p 0 ≡ getD s p 0) (l : ℕ) (h : l < b) where
+  pub line-kept : (y : ℕ) → y ≤ n → (e i : ℕ) → line m (lane m b v l) e i y ≡ line m (lane m b s l) e i y
+  line-kept y most = line-same m y (lane m b v l) (lane m b s l) (λ r t hr ht. cell-kept m b n s v kept l r t h hr (omega arith))
+
+  pub span-kept : (x y : ℕ) → x ≤ y → y ≤ n → (e i : ℕ) → span m (lane m b v l) e i x y ≡ span m (lane m b s l) e i x y
+  span-kept x y order most = span-same m x y (lane m b v l) (lane m b s l) (λ r t hr ht. cell-kept m b n s v kept l r t h hr (omega arith)) order

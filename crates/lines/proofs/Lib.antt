@@ -1,3 +1,4 @@
 pub mod Lines
 pub mod Equations
 pub mod Cells
+pub mod Seeds

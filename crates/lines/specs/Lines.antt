@@ -2,12 +2,15 @@
 --   real m a r t        the byte in row r of column t; row m - 1 is zero
 --   line m a e i n      the sum of line i over the first n columns: with slant e = 0 it is row i, with e = 1 diagonal i
 --   span m a e i x y    the same over the columns from x up to y: the sum over all below y without that over all below x
+--   seedOf fresh seed w at l   what lane l of the cell of w at `at` starts from: the cell `seed` where it is set afresh, else what it holds
 --   Sized m b c         the numbers of a shape, as far as loops need them, with c the bytes of a column
 --   Crosses …           line i of slant e can be followed through the columns from x up to y of a stripe of n bytes
 use mathlib.Core.Path.{_≡_}
-use mathlib.Core.Bool.{cond}
-use Prim.Native.Nat.{ℕ, _-_, _*_, _≤_, _<_}
+use mathlib.Core.Bool.{Bool, cond}
+use mathlib.Core.List.{List}
+use Prim.Native.Nat.{ℕ, _+_, _-_, _*_, _≤_, _<_}
 use lib.Dec.{ltb}
+use lib.ListN.{getD}
 use Rattle.parity.specs.Xor.{_⊕_}
 use Rattle.parity.specs.Sum.{sum}
 use Rattle.parity.specs.Shape.{columnLength}
@@ -21,6 +24,9 @@ line m a e i n = sum n (λ t. real m a (back m i (e * t)) t)
 
 unfoldable pub span : ℕ → Lane → ℕ → ℕ → ℕ → ℕ → ℕ
 span m a e i x y = line m a e i x ⊕ line m a e i y
+
+unfoldable pub seedOf : Bool → List ℕ → List ℕ → ℕ → ℕ → ℕ
+seedOf fresh seed w at l = cond fresh (getD seed l 0) (getD w (at + l) 0)
 
 pub record Sized (m b c : ℕ) : Type 0 where
   pub big : 1 < m

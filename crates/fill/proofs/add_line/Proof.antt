@@ -6,7 +6,7 @@ use Rattle.parity.specs.Xor.{_⊕_}
 use Rattle.parity.specs.Stripe.{lane}
 use Rattle.cells.proofs.Puts.{put-same}
 use Rattle.lines.specs.Lines.{span}
-use Rattle.fill.proofs.Seeds.{seed-kept}
+use Rattle.lines.proofs.Seeds.{seed-kept}
 use borrow.Author.Needs.{needs}
 use Rattle.fill.proofs.add_line.Statement.{statement}
 use Rattle.fill.proofs.add_line.Tie as tie

@@ -1,5 +1,5 @@
 -- `fill::fill_rows` meets its contract. The invariant: the rows before r have their lines added, and i is the line of row r.
-use mathlib.Core.Path.{_≡_, refl, sym, ap, _∙_}
+use mathlib.Core.Path.{_≡_, sym, ap, _∙_}
 use Prim.Native.Nat.{ℕ, _+_, _*_, _-_, _%_, _≤_}
 use native.Mathlib.Nat.{mod-eq-of-lt, le-refl}
 use lib.ListN.{getD}
@@ -9,7 +9,7 @@ use Rattle.parity.specs.Stripe.{lane}
 use Rattle.cells.proofs.Parts.{parts-end}
 use Rattle.cells.proofs.Puts.{put-same}
 use Rattle.lines.specs.Lines.{span}
-use Rattle.lines.proofs.Lines.{cell-room, crosses-line}
+use Rattle.lines.proofs.Lines.{crosses-line}
 use Rattle.fill.proofs.Rows.{Grown, lined-none, lined-count, grown-more}
 use Rattle.fill.proofs.Sweeps.{lineAt, line-lt, line-next}
 use borrow.Author.Needs.{needs}

@@ -1,14 +1,14 @@
--- `fill::take_seed` meets its contract: each arm starts from the seed that `seedOf` names there.
+-- `lines::take_seed` meets its contract: each arm starts from the seed that `seedOf` names there.
 use mathlib.Core.Path.{sym, _∙_}
 use Prim.Native.Nat.{_+_}
 use denote.Ref.{now}
 use Rattle.cells.proofs.Parts.{part-at}
 use Rattle.cells.proofs.Puts.{put-same}
-use Rattle.fill.proofs.Seeds.{seed-fresh, seed-kept}
+use Rattle.lines.proofs.Seeds.{seed-fresh, seed-kept}
 use borrow.Author.Needs.{needs}
 use native.Mathlib.Omega.{arith}
-use Rattle.fill.proofs.take_seed.Statement.{statement}
-use Rattle.fill.proofs.take_seed.Tie as tie
+use Rattle.lines.proofs.take_seed.Statement.{statement}
+use Rattle.lines.proofs.take_seed.Tie as tie
 
 start-requires : tie.Need-start-requires
 start-requires c κs = λ h. omega (arith, c .before .before .before .before .before .pre .0 h)

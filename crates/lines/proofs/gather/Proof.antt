@@ -1,8 +1,8 @@
--- `fill::gather` meets its contract: the seed, and then the span added to it.
+-- `lines::gather` meets its contract: the seed, and then the span added to it.
 use Rattle.cells.proofs.Puts.{put-then-added}
 use borrow.Author.Needs.{needs}
-use Rattle.fill.proofs.gather.Statement.{statement}
-use Rattle.fill.proofs.gather.Tie as tie
+use Rattle.lines.proofs.gather.Statement.{statement}
+use Rattle.lines.proofs.gather.Tie as tie
 
 take-seed-requires : tie.Need-take-seed-requires
 take-seed-requires c κs = search needs
