@@ -1,8 +1,27 @@
 // Encode.
+use crate::shapes::Judged;
 use crate::shapes::Refusal;
+use crate::shapes::judge;
+use lines::Grid;
+ghost use Rattle.evenodd.specs.Encodes.{Encodes};
 
 // What encode answers.
 pub enum Encoded {
     Done,
     Refused(Refusal),
+}
+
+// Writes H and D; the data columns stay. A refused call writes nothing.
+pub fn encode(m: usize, k: usize, b: usize, stripe: &mut [u8]) -> Encoded
+    ensures { λ r. ⌜ Encodes m k b (now (stripe .entry)) (now (stripe .exit)) r ⌝ }
+{
+    let judged = judge(m, k, b);
+    let Judged::Good { column } = judged else {
+        return Encoded::Refused(judged.refusal());
+    };
+    if stripe.len() != (k + 2) * column {
+        return Encoded::Refused(Refusal::StripeLength);
+    }
+    parities::put_parity(stripe, Grid { m, b, column }, k);
+    Encoded::Done
 }

@@ -11,6 +11,7 @@ mod showing;
 pub use checking::Checked;
 pub use checking::check;
 pub use encoding::Encoded;
+pub use encoding::encode;
 pub use maps::Gaps;
 pub use maps::Map;
 pub use maps::Marked;
