@@ -7,3 +7,4 @@ pub mod Determined
 pub mod Stripe
 pub mod Outcomes
 pub mod EndToEnd
+pub mod Restored

@@ -2,7 +2,7 @@
 -- A list of rules gives one verdict. Where it passes, the answer speaks of valid stripes, of which the distance of three leaves one.
 use mathlib.Core.Path.{_≡_, refl, sym, ap, ap₂, _∙_}
 use mathlib.Core.Logic.{_≢_, _↔_, by-cases}
-use mathlib.Core.Bool.{Bool, false, true≢false}
+use mathlib.Core.Bool.{false, true≢false}
 use mathlib.Core.List.{List}
 use Prim.Native.Nat.{ℕ, _+_, _-_, _≤_, _<_}
 use native.Mathlib.Decide.{decLt}
@@ -26,14 +26,13 @@ use Rattle.evenodd.specs.declared.restoring.Restored.{Restored}
 use Rattle.evenodd.specs.declared.restoring.Restored.the-variants as restored
 use Rattle.evenodd.specs.Refusals.{pass, Gives}
 use Rattle.evenodd.specs.Shapes.{stripeRules}
-use Rattle.evenodd.specs.Maps.{NthAbsent, absentBelow}
 use Rattle.evenodd.specs.Restores.{restoreRules, benchRules, Benched, Left}
 use Rattle.evenodd.specs.Mends.{mendRules, blameRules}
 use Rattle.evenodd.specs.Determined.{EncodesOne, ChecksOne, RestoresOne, RestoresUnread, MendsOne}
 use Rattle.evenodd.proofs.Rules.{passes-not, refuse-one, equal-of, gives-one, passed-first, gives-passed, Alike, gives-alike}
 use Rattle.evenodd.proofs.Shape.{passed-shape}
 use Rattle.evenodd.proofs.Stripe.{stripe-given}
-use Rattle.evenodd.proofs.Presence.{below-under}
+use Rattle.evenodd.proofs.Presence.{nth-one}
 
 -- ---- encode and check
 
@@ -70,13 +69,6 @@ checks-one m k b s (checked.Refused f) (checked.Broken u v) p q = absurd (passes
 checks-one m k b s (checked.Refused f) (checked.Refused g) p q = ap checked.Refused (refuse-one f g (gives-one (stripeRules m k b s) _ _ (p .told) (q .told)))
 
 -- ---- restore
-
-nth-one : (n j : ℕ) (map : List Bool) (t u : ℕ) → NthAbsent n j map t → NthAbsent n j map u → t ≡ u
-nth-one n j map t u p q = by-cases (decLt j (absentBelow n map))
-    (λ l. let x = p .found l in let y = q .found l in
-    by-cases (decLt t u) (λ c. absurd (let z = below-under map t u (x .1) c in omega (arith, x .2, y .2)))
-    (λ c. by-cases (decLt u t) (λ d. absurd (let z = below-under map u t (y .1) d in omega (arith, x .2, y .2))) (λ d. omega arith)))
-    (λ l. p .none (omega arith) ∙ sym (q .none (omega arith)))
 
 -- what restore's rules say where they pass
 pub record Passed (m k b : ℕ) (map : Map) (s bench : List ℕ) : Type 0 where

@@ -5,6 +5,7 @@
 --   marks-set, marks-kept      what a mark leaves, at a place below 129 and at another
 --   same-map                   two maps with the same places present are equal
 --   absences-below, below-..   how many places below a place are absent
+--   nth-one, others-present    there is one absent place with so many below it; of at most two absent places the others are present
 --   counts-..                  the gaps below 0, and below t + 1 where those below t are known
 use mathlib.Core.Path.{_≡_, refl, sym, ap, _∙_}
 use mathlib.Core.Bool.{Bool, true, false, not, cond}
@@ -12,9 +13,9 @@ use mathlib.Core.List.{List}
 use Prim.Native.Nat.{ℕ, zero, suc, _+_, _≤_, _<_}
 use native.Mathlib.Numerals.{add-one}
 use native.Mathlib.Nat.{eq-or-lt-of-le, le-of-suc-le-suc, not-suc-le-zero}
-use native.Mathlib.Decide.{ℕ-discrete}
+use native.Mathlib.Decide.{ℕ-discrete, decLt}
 use native.Mathlib.Omega.{arith}
-use mathlib.Core.Logic.{_⊎_, inl, inr, by-cases}
+use mathlib.Core.Logic.{_≢_, _⊎_, inl, inr, by-cases}
 use lib.ListN.{length, set, replicate, length-map, length-set, List·getD-eq-default}
 use lib.Seq.{getD-set-same, getD-set-other, ext-getD}
 use mir.Val.{Val}
@@ -105,6 +106,31 @@ module _ {map : List Bool} {t : ℕ} where
   -- place t comes to be it
   nth-found : {j : ℕ} → present map t ≡ false → absentBelow t map ≡ j → NthAbsent (t + 1) j map t
   nth-found {j} e n = record { found = λ l. (omega arith, e, n); none = λ l. absurd (let x = below-absent map t e in omega arith) }
+
+-- there is one absent place with so many below it
+pub nth-one : (n j : ℕ) (map : List Bool) (t u : ℕ) → NthAbsent n j map t → NthAbsent n j map u → t ≡ u
+nth-one n j map t u p q = by-cases (decLt j (absentBelow n map))
+    (λ l. let x = p .found l in let y = q .found l in
+    by-cases (decLt t u) (λ c. absurd (let z = below-under map t u (x .1) c in omega (arith, x .2, y .2)))
+    (λ c. by-cases (decLt u t) (λ d. absurd (let z = below-under map u t (y .1) d in omega (arith, x .2, y .2))) (λ d. omega arith)))
+    (λ l. p .none (omega arith) ∙ sym (q .none (omega arith)))
+
+absent-nth : (n : ℕ) (map : List Bool) (t : ℕ) → t < n → present map t ≡ false → NthAbsent n (absentBelow t map) map t
+absent-nth n map t l e = record { found = λ _. (l, e, refl); none = λ h. absurd (let z = below-under map t n e l in omega arith) }
+
+-- of at most two absent places below n, the others are present
+pub others-present : (n : ℕ) (map : List Bool) (f g : ℕ) → absentBelow n map ≤ 2 → NthAbsent n 0 map f → NthAbsent n 1 map g
+    → (t : ℕ) → t < n → t ≢ f → t ≢ g → present map t ≡ true
+others-present n map f g few p q t l nf ng = go (present map t) refl
+  where
+    go : (b : Bool) → present map t ≡ b → present map t ≡ true
+    go true e = e
+    go false e =
+        let under = below-under map t n e l in
+        let here = absent-nth n map t l e in
+        by-cases (decLt 0 (absentBelow t map))
+        (λ c. let z : absentBelow t map ≡ 1 = omega arith in absurd (ng (nth-one n 1 map t g (rw z at here) q)))
+        (λ c. let z : absentBelow t map ≡ 0 = omega arith in absurd (nf (nth-one n 0 map t f (rw z at here) p)))
 
 pub counts-none : (map : List Bool) → Counts 0 map (record { count = 0; first = 129; second = 129 })
 unfolding absentBelow count

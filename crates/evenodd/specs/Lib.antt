@@ -6,6 +6,7 @@ pub mod Shows
 pub mod Encodes
 pub mod Checks
 pub mod Restores
+pub mod Gapped
 pub mod Mends
 pub mod Determined
 pub mod EndToEnd
