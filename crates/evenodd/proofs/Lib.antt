@@ -8,3 +8,4 @@ pub mod Stripe
 pub mod Outcomes
 pub mod EndToEnd
 pub mod Restored
+pub mod Mended
