@@ -72,7 +72,7 @@ module _ (m k b : ℕ) (h : Shape m k b) (map : List Bool) (s : List ℕ) (st : 
 
   pub restored-one : n ≡ 1 → FitsBut m k b first s → (before after : List ℕ) → length after ≡ length before
       → ((r : List ℕ) → Valid m k b r → ((l i t : ℕ) → l < b → i < m - 1 → t < k + 2 → t ≢ first → byte m b s l i t ≡ byte m b r l i t)
-        → (l i : ℕ) → l < b → i < m - 1 → byte m b after l i 0 ≡ byte m b r l i first)
+      → (l i : ℕ) → l < b → i < m - 1 → byte m b after l i 0 ≡ byte m b r l i first)
       → ((l i : ℕ) → l < b → i < m - 1 → byte m b after l i 1 ≡ byte m b before l i 1) → RestoredFrom m k b map s before after n first second
   restored-one e fits before after size half0 half1 = from fits before after (record {
     size = size;
@@ -82,7 +82,7 @@ module _ (m k b : ℕ) (h : Shape m k b) (map : List Bool) (s : List ℕ) (st : 
 
   pub restored-two : n ≡ 2 → (before after : List ℕ) → length after ≡ length before
       → ((r : List ℕ) → Valid m k b r → ((l i t : ℕ) → l < b → i < m - 1 → t < k + 2 → t ≢ first → t ≢ second → byte m b s l i t ≡ byte m b r l i t)
-        → (l i : ℕ) → l < b → i < m - 1 → (byte m b after l i 0 ≡ byte m b r l i first) × (byte m b after l i 1 ≡ byte m b r l i second))
+      → (l i : ℕ) → l < b → i < m - 1 → (byte m b after l i 0 ≡ byte m b r l i first) × (byte m b after l i 1 ≡ byte m b r l i second))
       → RestoredFrom m k b map s before after n first second
   unfolding ExactlyOne
   restored-two e before after size both =

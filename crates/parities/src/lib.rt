@@ -57,7 +57,33 @@ fn put_blocks(
     j
 }
 
-// The lanes from j on of the cell at `to`, which are fewer than 128, become that sum.
+// The lanes from x on, of which there are fewer than 128, become that sum, 16 at a time, as far as they go. The number of lanes done.
+fn put_small(
+    s: &mut [u8],
+    seed: &[u8],
+    fresh: bool,
+    g: Grid,
+    slant: usize,
+    i: usize,
+    t0: usize,
+    t1: usize,
+    to: usize,
+    x: usize,
+) -> usize
+    requires { ⌜ (x ≤ g .b) × Ready (g .m) (g .b) (g .column) (length (now s)) (length (now seed)) slant i t0 t1 to ⌝ }
+    ensures { λ r. ⌜ (x ≤ r) × (r ≤ g .b) × (g .b < r + 16) × Put (now (s .entry)) (now (s .exit)) (to + x) (r - x) (λ l. value fresh (now (seed .entry)) (g .m) (g .b) (now (s .entry)) slant i t0 t1 to (x + l)) ⌝ }
+{
+    let mut acc = [0u8; 16];
+    let mut j = x;
+    let b = g.b;
+    while 16 <= b - j {
+        put_part(&mut acc, s, seed, fresh, g, slant, i, t0, t1, to, j);
+        j += 16;
+    }
+    j
+}
+
+// The lanes from j on of the cell at `to`, which are fewer than 16, become that sum.
 fn put_rest(
     s: &mut [u8],
     seed: &[u8],
@@ -70,12 +96,12 @@ fn put_rest(
     to: usize,
     j: usize,
 )
-    requires { ⌜ (j ≤ g .b) × (g .b < j + 128) × Ready (g .m) (g .b) (g .column) (length (now s)) (length (now seed)) slant i t0 t1 to ⌝ }
+    requires { ⌜ (j ≤ g .b) × (g .b < j + 16) × Ready (g .m) (g .b) (g .column) (length (now s)) (length (now seed)) slant i t0 t1 to ⌝ }
     ensures { λ _. ⌜ Put (now (s .entry)) (now (s .exit)) (to + j) (g .b - j) (λ l. value fresh (now (seed .entry)) (g .m) (g .b) (now (s .entry)) slant i t0 t1 to (j + l)) ⌝ }
 {
     let b = g.b;
     if j < b {
-        let mut rest = [0u8; 128];
+        let mut rest = [0u8; 16];
         put_part(
             &mut rest[0..b - j],
             s,
@@ -107,7 +133,8 @@ fn put_cell(
     requires { ⌜ Ready (g .m) (g .b) (g .column) (length (now s)) (length (now seed)) slant i t0 t1 to ⌝ }
     ensures { λ _. ⌜ Put (now (s .entry)) (now (s .exit)) to (g .b) (λ l. value fresh (now (seed .entry)) (g .m) (g .b) (now (s .entry)) slant i t0 t1 to l) ⌝ }
 {
-    let j = put_blocks(s, seed, fresh, g, slant, i, t0, t1, to);
+    let x = put_blocks(s, seed, fresh, g, slant, i, t0, t1, to);
+    let j = put_small(s, seed, fresh, g, slant, i, t0, t1, to, x);
     put_rest(s, seed, fresh, g, slant, i, t0, t1, to, j);
 }
 

@@ -1,12 +1,12 @@
 -- `parities::put_blocks` meets its contract. The invariant: the lanes before j are put, and the stripe is otherwise as it was.
 use mathlib.Core.Path.{_≡_}
-use Prim.Native.Nat.{_≤_, _-_}
+use Prim.Native.Nat.{_≤_, _-_, _+_}
 use lib.ListN.{length}
 use denote.Ref.{now}
 use Rattle.cells.specs.Runs.{Put}
 use Rattle.cells.proofs.Puts.{put-none, put-count}
 use Rattle.parities.specs.Sums.{value}
-use Rattle.parities.proofs.Values.{ready-still, value-next}
+use Rattle.parities.proofs.Values.{ready-still, value-next, value-first, value-whole}
 use borrow.Author.Needs.{needs}
 use native.Mathlib.Omega.{arith}
 use Rattle.parities.proofs.put_blocks.Statement.{statement}
@@ -47,8 +47,8 @@ loop-again c =
       search needs,
       search needs,
       search needs,
-      value-next (a .fresh) (now (a .seed)) (a .g .m) (a .g .b) (now (a .s)) (a .slant) (a .i) (a .t0) (a .t1) (a .to) (a .g .column) (length (now (a .s))) (length (now (a .seed))) (c .before .before .before .before .before .before .before .before .before .before .pre) (y .s) u (y .j) 128 (omega arith) (y .inv .3)
-          (put-count (c .before .before .before .put-part .ensures) (y .inv .2)),
+      value-whole (a .fresh) (now (a .seed)) (a .g .m) (a .g .b) (now (a .s)) (a .slant) (a .i) (a .t0) (a .t1) (a .to) u (y .j + 128) (value-next (a .fresh) (now (a .seed)) (a .g .m) (a .g .b) (now (a .s)) (a .slant) (a .i) (a .t0) (a .t1) (a .to) (a .g .column) (length (now (a .s))) (length (now (a .seed))) (c .before .before .before .before .before .before .before .before .before .before .pre) (y .s) u 0 (y .j) 128 (omega arith) (omega arith) (value-first (a .fresh) (now (a .seed)) (a .g .m) (a .g .b) (now (a .s)) (a .slant) (a .i) (a .t0) (a .t1) (a .to) (y .s) (y .j) (y .inv .3))
+          (put-count (c .before .before .before .put-part .ensures) (y .inv .2))),
     )
 
 same-length : tie.Need-same-length Inv-loop μ-loop
