@@ -1,10 +1,11 @@
 -- Cells that become sums, block after block of their lanes.
 --   ready           when a cell past the k data columns is ready for a line over some of them
 --   ready-still     it is so too in another stripe of the same length
+--   value-fresh     a fresh sum is the seed plus the line
 --   value-at        the value of a cell by its row and column
 --   value-next      blocks one after another: the line is that of the stripe as it was
-use mathlib.Core.Path.{_≡_, sym, ap, ap₂, _∙_, subst}
-use mathlib.Core.Bool.{Bool, cond}
+use mathlib.Core.Path.{_≡_, refl, sym, ap, ap₂, _∙_, subst}
+use mathlib.Core.Bool.{Bool, true, cond}
 use mathlib.Core.List.{List}
 use Prim.Native.Nat.{ℕ, _+_, _-_, _*_, _≤_, _<_}
 use native.Mathlib.Nat.{mul-le-mul, mul-le-mul-right}
@@ -37,6 +38,10 @@ pub ready-still : {m b c n v z e i x y to : ℕ} → Ready m b c n z e i x y to 
 ready-still {m} {b} {c} {z = z} {e} {i} {x} {y} {to} r q = subst (λ (a : ℕ). Ready m b c a z e i x y to) (sym q) r
 
 module _ (fresh : Bool) (seed : List ℕ) (m b : ℕ) (s : List ℕ) (e i x y to : ℕ) where
+  pub value-fresh : fresh ≡ true → (l : ℕ) → getD seed l 0 ⊕ span m (lane m b s l) e i x y ≡ value fresh seed m b s e i x y to l
+  unfolding value
+  value-fresh f l = rw f refl
+
   pub value-at : (r t : ℕ) → to ≡ t * columnLength m b + r * b
       → (l : ℕ) → value fresh seed m b s e i x y to l ≡ cond fresh (getD seed l 0) (lane m b s l r t) ⊕ span m (lane m b s l) e i x y
   unfolding value
