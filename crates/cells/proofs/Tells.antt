@@ -2,6 +2,7 @@
 --   tells-none, tells-one   of no numbers, and of one more
 --   tells-next              of a second run after the first, which may overlap it
 --   tells-same              of the same numbers by another name
+--   or-left, or-right, or-none   what is or-ed together is 0 exactly when both parts are
 use mathlib.Core.Path.{_≡_, refl, sym, ap, _∙_}
 use Prim.Native.Nat.{ℕ, _+_, _-_, _≤_, _<_}
 use native.Mathlib.Omega.{arith}
@@ -9,13 +10,13 @@ use lib.Bits.{bitOr, or-add-and, and-le-l, and-le-r}
 use Rattle.cells.specs.Runs.{Tells}
 use Rattle.cells.proofs.Parts.{by-order}
 
-or-left : (a b : ℕ) → bitOr a b ≡ 0 → a ≡ 0
+pub or-left : (a b : ℕ) → bitOr a b ≡ 0 → a ≡ 0
 or-left a b e = omega (arith, or-add-and a b, and-le-r a b, e)
 
-or-right : (a b : ℕ) → bitOr a b ≡ 0 → b ≡ 0
+pub or-right : (a b : ℕ) → bitOr a b ≡ 0 → b ≡ 0
 or-right a b e = omega (arith, or-add-and a b, and-le-l a b, e)
 
-or-none : (a b : ℕ) → a ≡ 0 → b ≡ 0 → bitOr a b ≡ 0
+pub or-none : (a b : ℕ) → a ≡ 0 → b ≡ 0 → bitOr a b ≡ 0
 or-none a b p q = ap (λ (x : ℕ). bitOr x b) p ∙ q
 
 pub tells-none : (f : ℕ → ℕ) → Tells 0 0 f

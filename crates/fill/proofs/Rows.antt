@@ -4,6 +4,7 @@
 --   Grown n b at w v f        v is w with f r l added at lane l of cell r, of the n cells from `at` on
 --   grown-more                one row more that was added to
 --   grown-none, grown-both    nothing added, and one thing added after another
+--   grown-same                the same added, by another name
 --   both-none, both-both      the same in two columns
 --   both-grown                two columns, of which the first was added to, and then the second
 use mathlib.Core.Path.{_≡_, refl, sym, ap, _∙_, subst}
@@ -25,7 +26,7 @@ use Rattle.fill.specs.Fill.{Lined, BothAdded}
 pub lined-none : (b at : ℕ) (w : List ℕ) (f : ℕ → ℕ → ℕ) → Lined 0 b at w w f
 lined-none b at w f = record { size = refl; inside = λ r l h. absurd (omega arith); before = λ p h. refl; after = λ p h. refl }
 
-lined-more : (n b at : ℕ) (w u v : List ℕ) (f : ℕ → ℕ → ℕ) → Lined n b at w u f → Put u v (at + n * b) b (f n) → Lined (n + 1) b at w v f
+pub lined-more : (n b at : ℕ) (w u v : List ℕ) (f : ℕ → ℕ → ℕ) → Lined n b at w u f → Put u v (at + n * b) b (f n) → Lined (n + 1) b at w v f
 lined-more n b at w u v f p q = record {
   size = q .size ∙ p .size;
   inside = λ r l h k. by-order (getD v (at + (r * b + l)) 0 ≡ f r l) r n
@@ -64,6 +65,9 @@ grown-more n b at w u v f p q = lined-more n b at w u v (λ r l. getD w (at + (r
 module _ (n b at : ℕ) where
   pub grown-none : (w : List ℕ) (f : ℕ → ℕ → ℕ) → ((r l : ℕ) → f r l ≡ 0) → Grown n b at w w f
   grown-none w f so = record { size = refl; inside = λ r l h k. plus-none (getD w (at + (r * b + l)) 0) (so r l); before = λ p h. refl; after = λ p h. refl }
+
+  pub grown-same : (w v : List ℕ) (f g : ℕ → ℕ → ℕ) → Grown n b at w v f → ((r l : ℕ) → r < n → l < b → f r l ≡ g r l) → Grown n b at w v g
+  grown-same w v f g p so = lined-same p (λ r l h k. ap (λ (x : ℕ). getD w (at + (r * b + l)) 0 ⊕ x) (so r l h k))
 
   pub grown-both : (w u v : List ℕ) (f g h : ℕ → ℕ → ℕ) → Grown n b at w u f → Grown n b at u v g → ((r l : ℕ) → f r l ⊕ g r l ≡ h r l) → Grown n b at w v h
   grown-both w u v f g h p q so = record {

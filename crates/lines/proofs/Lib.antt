@@ -2,3 +2,5 @@ pub mod Lines
 pub mod Equations
 pub mod Cells
 pub mod Seeds
+pub mod Valid
+pub mod Amounts

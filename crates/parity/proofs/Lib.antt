@@ -18,3 +18,4 @@ pub mod Candidate
 pub mod Test
 pub mod Numbers
 pub mod Fits
+pub mod Suspects

@@ -1,0 +1,3 @@
+pub mod Adds
+pub mod Bands
+pub mod Tests

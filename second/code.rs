@@ -1,0 +1,301 @@
+//! The stripe code: parity equations as bits, elimination over GF(2), and the operations on a stripe.
+
+use std::ops::Range;
+
+pub const PLACES: usize = 129;
+pub const NO_COLUMN: usize = 129;
+
+pub const FINE: u8 = 0;
+pub const BAD_SHAPE: u8 = 1;
+pub const BAD_STRIPE: u8 = 2;
+pub const BAD_BENCH: u8 = 3;
+pub const TOO_MANY_ABSENT: u8 = 4;
+pub const NONE_FITS: u8 = 5;
+pub const NOT_MENDABLE: u8 = 6;
+pub const BAD_NUMBER: u8 = 7;
+pub const BAD_IMAGE: u8 = 8;
+pub const STRAY_PLACE: u8 = 9;
+pub const INPUT_TOO_LONG: u8 = 10;
+
+/// Three shape numbers as handed in. The methods other than `judge` are for numbers that were accepted.
+#[derive(Clone, Copy, PartialEq, Debug)]
+pub struct Shape { pub m: usize, pub k: usize, pub b: usize }
+
+pub fn is_odd_prime(n: usize) -> bool { n >= 3 && (2..n).take_while(|d| d * d <= n).all(|d| n % d != 0) }
+
+impl Shape {
+    pub fn judge(self) -> u8 {
+        let Shape { m, k, b } = self;
+        let good = m <= 127 && is_odd_prime(m) && 1 <= k && k <= m && 1 <= b && b <= 4096;
+        if good { FINE } else { BAD_SHAPE }
+    }
+    pub fn columns(self) -> usize { self.k + 2 }
+    pub fn column_length(self) -> usize { (self.m - 1) * self.b }
+    pub fn stripe_length(self) -> usize { self.columns() * self.column_length() }
+    pub fn bench_length(self) -> usize { 2 * self.column_length() }
+    /// The bytes of a column within a stripe.
+    pub fn column(self, column: usize) -> Range<usize> {
+        column * self.column_length()..(column + 1) * self.column_length()
+    }
+    /// Cells are numbered through the stripe, column after column.
+    fn cell_number(self, row: usize, column: usize) -> usize { column * (self.m - 1) + row }
+    fn cell(self, stripe: &[u8], row: usize, column: usize) -> &[u8] {
+        let start = self.cell_number(row, column) * self.b;
+        &stripe[start..start + self.b]
+    }
+    /// Whether row and column of the paper's data array are really there and not zero by rule.
+    fn real(self, row: usize, column: usize) -> bool { row < self.m - 1 && column < self.k }
+}
+
+/// The presence map: true is present.
+#[derive(Clone, Copy, PartialEq, Debug)]
+pub struct Map(pub [bool; PLACES]);
+
+impl Map {
+    pub fn new() -> Map { Map([false; PLACES]) }
+    pub fn all_but(columns: usize, absent: &[usize]) -> Map {
+        let mut map = Map::new();
+        (0..columns).for_each(|c| map.0[c] = !absent.contains(&c));
+        map
+    }
+    pub fn absent(&self, shape: Shape) -> Vec<usize> { (0..shape.columns()).filter(|&c| !self.0[c]).collect() }
+    pub fn has_stray(&self, shape: Shape) -> bool { self.0[shape.columns()..].iter().any(|&present| present) }
+}
+
+pub struct Marked { pub number: u8, pub map: Map }
+
+pub fn mark(map: Map, place: usize, present: bool) -> Marked {
+    let mut map = map;
+    if place >= PLACES {
+        return Marked { number: BAD_NUMBER, map };
+    }
+    map.0[place] = present;
+    Marked { number: FINE, map }
+}
+
+/// A row of bits.
+#[derive(Clone)]
+pub struct Bits(Vec<u64>);
+
+impl Bits {
+    fn zero(width: usize) -> Bits { Bits(vec![0; width.div_ceil(64)]) }
+    fn flip(&mut self, place: usize) { self.0[place / 64] ^= 1 << (place % 64); }
+    fn get(&self, place: usize) -> bool { self.0[place / 64] >> (place % 64) & 1 == 1 }
+    fn add(&mut self, other: &Bits) { self.0.iter_mut().zip(&other.0).for_each(|(x, y)| *x ^= y); }
+    pub fn ones(&self) -> Vec<usize> {
+        let mut found = Vec::new();
+        for (w, &word) in self.0.iter().enumerate() {
+            let mut rest = word;
+            while rest != 0 {
+                found.push(w * 64 + rest.trailing_zeros() as usize);
+                rest &= rest - 1;
+            }
+        }
+        found
+    }
+}
+
+fn add_bytes(to: &mut [u8], from: &[u8]) { to.iter_mut().zip(from).for_each(|(x, y)| *x ^= y); }
+
+fn is_zero(bytes: &[u8]) -> bool { bytes.iter().all(|&x| x == 0) }
+
+/// The 2(m-1) equations over the (k+2)(m-1) cells: the cells with a one sum to zero.
+pub fn equations(shape: Shape) -> Vec<Bits> {
+    let Shape { m, k, .. } = shape;
+    let mut all = Vec::new();
+    // Equation (2): H's cell i is the sum of a(i,t).
+    for i in 0..m - 1 {
+        let mut line = Bits::zero(shape.columns() * (m - 1));
+        (0..k).for_each(|t| line.flip(shape.cell_number(i, t)));
+        line.flip(shape.cell_number(i, k));
+        all.push(line);
+    }
+    // Equation (3): D's cell i is the sum of a(m-1-t,t) for t from 1, and of a(i-t mod m,t) for t from 0.
+    for i in 0..m - 1 {
+        let mut line = Bits::zero(shape.columns() * (m - 1));
+        let main = (1..m).map(|t| (m - 1 - t, t));
+        let own = (0..m).map(|t| ((i + m - t) % m, t));
+        for (row, t) in main.chain(own).filter(|&(row, t)| shape.real(row, t)) {
+            line.flip(shape.cell_number(row, t));
+        }
+        line.flip(shape.cell_number(i, k + 1));
+        all.push(line);
+    }
+    all
+}
+
+pub enum Solution {
+    /// The absent columns, one after another in the order they were named.
+    One(Vec<u8>),
+    None,
+    Many,
+}
+
+struct Line { unknown: Bits, known: Vec<u8> }
+
+/// Solves the equations for the cells of the absent columns. Each byte lane has the same matrix, so
+/// the bits are eliminated once and the known sides are carried along as byte vectors.
+pub fn solve(shape: Shape, equations: &[Bits], absent: &[usize], stripe: &[u8]) -> Solution {
+    let (rows, b) = (shape.m - 1, shape.b);
+    let unknowns = absent.len() * rows;
+    let mut lines: Vec<Line> = Vec::new();
+    for equation in equations {
+        let mut line = Line { unknown: Bits::zero(unknowns), known: vec![0; b] };
+        for place in equation.ones() {
+            let (column, row) = (place / rows, place % rows);
+            match absent.iter().position(|&c| c == column) {
+                Some(nth) => line.unknown.flip(nth * rows + row),
+                None => add_bytes(&mut line.known, shape.cell(stripe, row, column)),
+            }
+        }
+        lines.push(line);
+    }
+    let mut used = 0;
+    for u in 0..unknowns {
+        let Some(found) = (used..lines.len()).find(|&l| lines[l].unknown.get(u)) else { continue };
+        lines.swap(used, found);
+        let (above, rest) = lines.split_at_mut(used);
+        let (pivot, below) = rest.split_first_mut().expect("a pivot line was found");
+        for line in above.iter_mut().chain(below).filter(|l| l.unknown.get(u)) {
+            line.unknown.add(&pivot.unknown);
+            add_bytes(&mut line.known, &pivot.known);
+        }
+        used += 1;
+    }
+    if lines[used..].iter().any(|line| !is_zero(&line.known)) { return Solution::None; }
+    if used < unknowns { return Solution::Many; }
+    Solution::One(lines[..unknowns].iter().flat_map(|line| line.known.iter().copied()).collect())
+}
+
+fn judge_plain(shape: Shape, stripe: &[u8]) -> u8 {
+    match shape.judge() {
+        FINE if stripe.len() != shape.stripe_length() => BAD_STRIPE,
+        number => number,
+    }
+}
+
+fn judge_with_map(shape: Shape, map: &Map, stripe: &[u8], bench: &[u8]) -> u8 {
+    match judge_plain(shape, stripe) {
+        FINE if bench.len() != shape.bench_length() => BAD_BENCH,
+        FINE if map.has_stray(shape) => STRAY_PLACE,
+        number => number,
+    }
+}
+
+pub struct Encoded { pub number: u8 }
+
+/// H and D are the two columns that the equations give when they are taken as absent.
+pub fn encode(shape: Shape, stripe: &mut [u8]) -> Encoded {
+    let number = judge_plain(shape, stripe);
+    if number != FINE {
+        return Encoded { number };
+    }
+    let Solution::One(parity) = solve(shape, &equations(shape), &[shape.k, shape.k + 1], stripe) else {
+        panic!("data always has one parity");
+    };
+    stripe[shape.k * shape.column_length()..].copy_from_slice(&parity);
+    Encoded { number: FINE }
+}
+
+pub struct Checked { pub number: u8, pub rows: usize, pub diagonals: usize }
+
+/// The paper's a(i,t), zero where it is zero by rule.
+fn data_cell(shape: Shape, stripe: &[u8], row: usize, t: usize) -> Vec<u8> {
+    if shape.real(row, t) { shape.cell(stripe, row, t).to_vec() } else { vec![0; shape.b] }
+}
+
+fn sum(shape: Shape, cells: impl Iterator<Item = Vec<u8>>) -> Vec<u8> {
+    cells.fold(vec![0; shape.b], |mut total, cell| {
+        add_bytes(&mut total, &cell);
+        total
+    })
+}
+
+pub fn main_sum(shape: Shape, stripe: &[u8]) -> Vec<u8> {
+    let m = shape.m;
+    sum(shape, (1..m).map(|t| data_cell(shape, stripe, m - 1 - t, t)))
+}
+
+/// Counts broken equations as they are written down, without the bit matrix.
+pub fn check(shape: Shape, stripe: &[u8]) -> Checked {
+    let number = judge_plain(shape, stripe);
+    if number != FINE {
+        return Checked { number, rows: 0, diagonals: 0 };
+    }
+    let Shape { m, k, .. } = shape;
+    let s = main_sum(shape, stripe);
+    let row_breaks = |i: &usize| {
+        let right = sum(shape, (0..m).map(|t| data_cell(shape, stripe, *i, t)));
+        right != shape.cell(stripe, *i, k)
+    };
+    let diagonal_breaks = |i: &usize| {
+        let mut right = sum(shape, (0..m).map(|t| data_cell(shape, stripe, (*i + m - t) % m, t)));
+        add_bytes(&mut right, &s);
+        right != shape.cell(stripe, *i, k + 1)
+    };
+    let (rows, diagonals) = ((0..m - 1).filter(row_breaks).count(), (0..m - 1).filter(diagonal_breaks).count());
+    Checked { number, rows, diagonals }
+}
+
+pub struct Restored { pub number: u8, pub count: usize, pub first: usize, pub second: usize }
+
+pub fn restore(shape: Shape, map: &Map, stripe: &[u8], bench: &mut [u8]) -> Restored {
+    let refused = |number| Restored { number, count: 0, first: NO_COLUMN, second: NO_COLUMN };
+    let number = judge_with_map(shape, map, stripe, bench);
+    if number != FINE { return refused(number); }
+    let absent = map.absent(shape);
+    if absent.len() > 2 { return refused(TOO_MANY_ABSENT); }
+    match solve(shape, &equations(shape), &absent, stripe) {
+        Solution::None => refused(NONE_FITS),
+        Solution::Many => panic!("two valid stripes agree in all but two columns"),
+        Solution::One(columns) => {
+            bench[..columns.len()].copy_from_slice(&columns);
+            let nth = |n: usize| absent.get(n).copied().unwrap_or(NO_COLUMN);
+            Restored { number, count: absent.len(), first: nth(0), second: nth(1) }
+        }
+    }
+}
+
+pub struct Mended { pub number: u8, pub column: usize }
+
+/// Every column in turn is taken as absent; the one for which the others fit together is rewritten.
+pub fn mend(shape: Shape, stripe: &mut [u8]) -> Mended {
+    let number = judge_plain(shape, stripe);
+    if number != FINE {
+        return Mended { number, column: NO_COLUMN };
+    }
+    let equations = equations(shape);
+    if let Solution::One(_) = solve(shape, &equations, &[], stripe) {
+        return Mended { number, column: NO_COLUMN };
+    }
+    let mut repairs = Vec::new();
+    for column in 0..shape.columns() {
+        if let Solution::One(fitting) = solve(shape, &equations, &[column], stripe) {
+            if fitting != stripe[shape.column(column)] { repairs.push((column, fitting)); }
+        }
+    }
+    assert!(repairs.len() < 2, "two valid stripes differ in fewer than three columns");
+    match repairs.pop() {
+        None => Mended { number: NOT_MENDABLE, column: NO_COLUMN },
+        Some((column, fitting)) => {
+            stripe[shape.column(column)].copy_from_slice(&fitting);
+            Mended { number, column }
+        }
+    }
+}
+
+pub struct Shown { pub number: u8, pub from_bench: bool, pub start: usize, pub length: usize }
+
+pub fn show(shape: Shape, map: &Map, stripe: &[u8], bench: &[u8], column: usize) -> Shown {
+    let refused = |number| Shown { number, from_bench: false, start: 0, length: 0 };
+    let number = judge_with_map(shape, map, stripe, bench);
+    if number != FINE { return refused(number); }
+    if column >= shape.columns() { return refused(BAD_NUMBER); }
+    let absent = map.absent(shape);
+    if absent.len() > 2 { return refused(TOO_MANY_ABSENT); }
+    let length = shape.column_length();
+    match absent.iter().position(|&c| c == column) {
+        Some(half) => Shown { number, from_bench: true, start: half * length, length },
+        None => Shown { number, from_bench: false, start: column * length, length },
+    }
+}

@@ -1,0 +1,554 @@
+//! Requests and images made from a seed. Where the making settles the refusal number, it is kept with
+//! the case, so that the selftest can hold it against the answer.
+
+use crate::code::*;
+use crate::image::INPUT_LIMIT;
+use crate::requests::Request;
+
+pub struct Case { pub request: Request, pub expected: Option<u8> }
+
+struct Random(u64);
+
+impl Random {
+    fn next(&mut self) -> u64 {
+        self.0 = self.0.wrapping_add(0x9e37_79b9_7f4a_7c15);
+        let mut z = self.0;
+        z = (z ^ (z >> 30)).wrapping_mul(0xbf58_476d_1ce4_e5b9);
+        z = (z ^ (z >> 27)).wrapping_mul(0x94d0_49bb_1331_11eb);
+        z ^ (z >> 31)
+    }
+    fn below(&mut self, limit: usize) -> usize { (self.next() % limit as u64) as usize }
+    fn one_of<T: Copy>(&mut self, list: &[T]) -> T { list[self.below(list.len())] }
+    fn byte(&mut self) -> u8 { self.next() as u8 }
+    fn nonzero(&mut self) -> u8 { 1 + self.below(255) as u8 }
+    fn bytes(&mut self, count: usize) -> Vec<u8> { (0..count).map(|_| self.byte()).collect() }
+    /// Two different numbers below the limit.
+    fn two(&mut self, limit: usize) -> [usize; 2] {
+        let first = self.below(limit);
+        [first, (first + 1 + self.below(limit - 1)) % limit]
+    }
+}
+
+const MAX: usize = usize::MAX;
+pub const SIZES: [usize; 16] = [1, 2, 3, 5, 7, 8, 16, 31, 64, 100, 128, 129, 200, 257, 1000, 4096];
+pub const BAD_M: [usize; 36] = [
+    0, 1, 2, 4, 6, 8, 9, 15, 21, 25, 27, 33, 35, 49, 51, 57, 77, 87, 91, 93, 119, 121, 123, 125, 126, 128, 129, 131,
+    137, 256, 257, 259, 65_539, (1 << 32) + 3, MAX - 1, MAX,
+];
+pub const BAD_K: [usize; 8] = [0, 128, 129, 257, 65_537, (1 << 32) + 1, MAX - 1, MAX];
+pub const BAD_B: [usize; 8] = [0, 4097, 4098, 8192, 65_535, 65_537, (1 << 32) + 1, MAX];
+
+pub const PATTERNS: [&str; 9] = ["none", "data", "H", "D", "data+data", "data+H", "data+D", "H+D", "three-or-more"];
+pub const AT_MOST_ONE: [&str; 4] = ["none", "data", "H", "D"];
+
+const RESTORE_ORDER: [u8; 6] = [1, 2, 3, 9, 4, 5];
+const SHOW_ORDER: [u8; 6] = [1, 2, 3, 9, 7, 4];
+pub const RESTORE_PAIRS: [[u8; 2]; 12] =
+    [[1, 2], [1, 3], [1, 9], [1, 4], [2, 3], [2, 9], [2, 4], [3, 9], [3, 4], [3, 5], [9, 4], [9, 5]];
+pub const SHOW_PAIRS: [[u8; 2]; 15] = [
+    [1, 2], [1, 3], [1, 9], [1, 7], [1, 4], [2, 3], [2, 9], [2, 7], [2, 4], [3, 9], [3, 7], [3, 4], [9, 7], [9, 4],
+    [7, 4],
+];
+
+#[derive(Clone, Copy, PartialEq)]
+#[rustfmt::skip]
+enum Damage { None, OneColumn, TwoColumns, Lanes, Imaginary, Garbage, H, D }
+
+#[derive(Clone, Copy, PartialEq)]
+#[rustfmt::skip]
+enum Flaw {
+    Short, Fourth, Shape, EightOnly, ContentsCut, BodyCut, Trailing, Gap, Offset, State, Flip, Column, Swap, Pad,
+}
+
+const FLAWS: [Flaw; 14] = {
+    use Flaw::*;
+    [Short, Fourth, Shape, EightOnly, ContentsCut, BodyCut, Trailing, Gap, Offset, State, Flip, Column, Swap, Pad]
+};
+
+enum Recipe {
+    /// Encode, check or mend.
+    Plain(fn(Shape, Vec<u8>) -> Request, Vec<u8>, Damage),
+    Restore(Vec<u8>, &'static str, Damage),
+    Show(Vec<u8>, &'static str),
+    Mark(bool),
+    Contents(Vec<Flaw>, &'static str),
+    /// The last says whether the lent stripe has the right length.
+    Read(Vec<Flaw>, &'static str, bool),
+}
+
+fn code_recipes() -> Vec<Recipe> {
+    use Damage::*;
+    let mut list = Vec::new();
+    for faults in [vec![], vec![1], vec![2], vec![1, 2]] {
+        list.push(Recipe::Plain(Request::Encode, faults.clone(), Garbage));
+        list.push(Recipe::Plain(Request::Check, faults.clone(), OneColumn));
+        list.push(Recipe::Plain(Request::Mend, faults, OneColumn));
+    }
+    for damage in [None, OneColumn, TwoColumns, Lanes, Imaginary, Garbage, H, D] {
+        list.push(Recipe::Plain(Request::Check, vec![], damage));
+        list.push(Recipe::Plain(Request::Mend, vec![], damage));
+        list.push(Recipe::Plain(Request::Mend, vec![], damage));
+    }
+    for pattern in PATTERNS {
+        list.push(Recipe::Restore(vec![], pattern, None));
+        list.push(Recipe::Restore(vec![], pattern, None));
+        list.push(Recipe::Restore(vec![], pattern, Garbage));
+        list.push(Recipe::Show(vec![], pattern));
+    }
+    for pattern in AT_MOST_ONE {
+        list.push(Recipe::Restore(vec![5], pattern, None));
+        list.push(Recipe::Restore(vec![], pattern, TwoColumns));
+    }
+    RESTORE_ORDER.iter().for_each(|&n| list.push(Recipe::Restore(vec![n], "any", None)));
+    RESTORE_PAIRS.iter().for_each(|pair| list.push(Recipe::Restore(pair.to_vec(), "any", None)));
+    SHOW_ORDER.iter().for_each(|&n| list.push(Recipe::Show(vec![n], "any")));
+    SHOW_PAIRS.iter().for_each(|pair| list.push(Recipe::Show(pair.to_vec(), "any")));
+    list.extend([Recipe::Mark(true), Recipe::Mark(true), Recipe::Mark(false)]);
+    list
+}
+
+fn image_recipes() -> Vec<Recipe> {
+    let mut list = vec![Recipe::Contents(vec![], "far"), Recipe::Read(vec![], "any", false)];
+    for pattern in PATTERNS.into_iter().chain(["all", "all"]) {
+        list.push(Recipe::Contents(vec![], pattern));
+        list.push(Recipe::Read(vec![], pattern, true));
+    }
+    for flaw in FLAWS {
+        list.push(Recipe::Contents(vec![flaw], "any"));
+        list.push(Recipe::Contents(vec![Flaw::Shape, flaw], "any"));
+        list.push(Recipe::Read(vec![flaw], "any", true));
+        list.push(Recipe::Read(vec![flaw], "any", false));
+    }
+    list
+}
+
+pub struct Maker { random: Random, primes: Vec<usize>, size_turn: usize, prime_turn: usize, bad_turn: usize }
+
+struct Scene { made_for: Shape, shape: Shape, map: Map, stripe: Vec<u8>, bench: Vec<u8> }
+
+impl Maker {
+    pub fn new(seed: u64) -> Maker {
+        let primes = (3..=127).filter(|&m| is_odd_prime(m)).collect();
+        Maker { random: Random(seed), primes, size_turn: 0, prime_turn: 0, bad_turn: 0 }
+    }
+
+    pub fn cases(mut self, count: usize) -> impl Iterator<Item = Case> {
+        let recipes: Vec<Recipe> = [code_recipes(), code_recipes(), image_recipes()].into_iter().flatten().collect();
+        (0..count).map(move |n| self.make(&recipes[n % recipes.len()]))
+    }
+
+    pub fn shelf_images(mut self, count: usize) -> impl Iterator<Item = (Vec<u8>, Option<u8>)> {
+        (0..count).map(move |turn| self.shelf_image(turn))
+    }
+
+    /// Some shapes take the cell sizes in turn, some the primes in turn, the rest are drawn.
+    fn shape(&mut self) -> Shape {
+        loop {
+            let (m, b, budget) = match self.random.below(6) {
+                0 => {
+                    self.size_turn += 1;
+                    let b = SIZES[self.size_turn % SIZES.len()];
+                    let small = if b > 100 { 2 } else { 5 };
+                    (self.primes[self.random.below(small)], b, 3_000.max(12 * b))
+                }
+                1 => {
+                    self.prime_turn += 1;
+                    let m = self.primes[self.prime_turn % self.primes.len()];
+                    (m, self.random.one_of(&[1, 1, 2, 3]), 18_000)
+                }
+                2 => (self.primes[self.random.below(10)], self.random.one_of(&SIZES), 12_000),
+                _ => (self.primes[self.random.below(5)], self.random.one_of(&SIZES[..8]), 3_000),
+            };
+            let k = match self.random.below(6) {
+                0 => 1,
+                1 => m,
+                2 | 3 => 1 + self.random.below(m.min(4)),
+                _ => 1 + self.random.below(m),
+            };
+            if (k + 4) * (m - 1) * b <= budget {
+                return Shape { m, k, b };
+            }
+        }
+    }
+
+    fn shape_where(&mut self, wanted: impl Fn(Shape) -> bool) -> Shape {
+        loop {
+            let shape = self.shape();
+            if wanted(shape) { return shape; }
+        }
+    }
+
+    /// A shape with one number spoiled, sometimes a second one. Without a limit the bad values come in turn.
+    fn bad_shape(&mut self, good: Shape, limit: Option<usize>) -> Shape {
+        loop {
+            self.bad_turn += limit.is_none() as usize;
+            let turn = if limit.is_none() { self.bad_turn } else { self.random.below(1000) };
+            let mut bad = good;
+            match turn % 6 {
+                which @ (0 | 1) => bad.m = BAD_M[(turn / 6 * 2 + which) % BAD_M.len()],
+                2 => bad.m = [2, 9, 129, 131, 1, MAX][turn / 6 % 6],
+                3 => bad.k = BAD_K[turn / 6 % BAD_K.len()],
+                4 => bad.b = BAD_B[turn / 6 % BAD_B.len()],
+                _ => bad.k = bad.m + 1 + self.random.below(2),
+            }
+            if turn % 6 < 3 { bad.k = bad.k.min(bad.m).max(1); }
+            match self.random.below(8) {
+                0 => bad.k = self.random.one_of(&BAD_K),
+                1 => bad.b = self.random.one_of(&BAD_B),
+                _ => {}
+            }
+            let top = limit.unwrap_or(MAX);
+            if bad.judge() != FINE && bad.m <= top && bad.k <= top && bad.b <= top { return bad; }
+        }
+    }
+
+    fn valid_stripe(&mut self, shape: Shape) -> Vec<u8> {
+        let mut stripe = vec![0; shape.stripe_length()];
+        let way = self.random.below(8);
+        for byte in &mut stripe[..shape.k * shape.column_length()] {
+            *byte = match way {
+                0 => 0,
+                1 => self.random.byte() & 1,
+                2 if self.random.below(20) > 0 => 0,
+                _ => self.random.byte(),
+            };
+        }
+        encode(shape, &mut stripe);
+        stripe
+    }
+
+    /// Makes one column different from what it was: most of it, one lane, one cell or one byte.
+    fn hurt(&mut self, shape: Shape, stripe: &mut [u8], column: usize) {
+        let b = shape.b;
+        let part = &mut stripe[shape.column(column)];
+        let before = part.to_vec();
+        while part == before {
+            let at = self.random.below(part.len());
+            match self.random.below(4) {
+                0 => part.iter_mut().for_each(|x| *x = self.random.byte()),
+                1 => part.iter_mut().skip(at % b).step_by(b).for_each(|x| *x = self.random.byte()),
+                2 => part[at / b * b..at / b * b + b].iter_mut().for_each(|x| *x ^= self.random.nonzero()),
+                _ => part[at] ^= self.random.nonzero(),
+            }
+        }
+    }
+
+    fn damage(&mut self, shape: Shape, stripe: &mut Vec<u8>, damage: Damage) {
+        let Shape { m, k, b } = shape;
+        let columns = match damage {
+            Damage::OneColumn => vec![self.random.below(k + 2)],
+            Damage::TwoColumns => self.random.two(k + 2).to_vec(),
+            Damage::H => vec![k],
+            Damage::D => vec![k + 1],
+            _ => vec![],
+        };
+        columns.into_iter().for_each(|column| self.hurt(shape, stripe, column));
+        match damage {
+            Damage::Lanes => {
+                for (column, lane) in self.random.two(k + 2).into_iter().zip(self.random.two(b)) {
+                    let row = self.random.below(m - 1);
+                    stripe[shape.column(column)][row * b + lane] ^= self.random.nonzero();
+                }
+            }
+            // H and D as they would be if an imaginary column were not zero.
+            Damage::Imaginary => {
+                let wide = Shape { m, k: m, b };
+                let mut error = vec![0; wide.stripe_length()];
+                let column = k + self.random.below(m - k);
+                self.hurt(wide, &mut error, column);
+                encode(wide, &mut error);
+                let parity = &error[m * wide.column_length()..];
+                stripe[k * shape.column_length()..].iter_mut().zip(parity).for_each(|(x, y)| *x ^= y);
+            }
+            Damage::Garbage => *stripe = self.random.bytes(stripe.len()),
+            _ => {}
+        }
+    }
+
+    fn absent(&mut self, shape: Shape, pattern: &str) -> Vec<usize> {
+        let k = shape.k;
+        let data = self.random.below(k);
+        match pattern {
+            "none" => vec![],
+            "data" => vec![data],
+            "H" => vec![k],
+            "D" => vec![k + 1],
+            "data+data" => self.random.two(k).to_vec(),
+            "data+H" => vec![data, k],
+            "data+D" => vec![data, k + 1],
+            "H+D" => vec![k, k + 1],
+            "all" => (0..k + 2).collect(),
+            _ => {
+                let mut rest: Vec<usize> = (0..k + 2).collect();
+                let left = if self.random.below(2) == 0 { k - 1 } else { self.random.below(k) };
+                for _ in 0..left { rest.remove(self.random.below(rest.len())); }
+                rest
+            }
+        }
+    }
+
+    fn bad_length(&mut self, bytes: &mut Vec<u8>, column: usize) {
+        let (was, filler) = (bytes.len(), self.random.byte());
+        let now = match self.random.below(8) {
+            0 => 0,
+            1 => was + column,
+            2 => was.saturating_sub(column),
+            3 | 4 => was.saturating_sub(1),
+            _ => was + 1,
+        };
+        bytes.resize(if now == was { was + 1 } else { now }, filler);
+    }
+
+    /// What a call is made with, bearing exactly the faults named (and what a bad shape brings along).
+    fn scene(&mut self, faults: &[u8], pattern: &'static str, damage: Damage) -> Scene {
+        let has = |n: u8| faults.contains(&n);
+        let pattern = match pattern {
+            "any" if has(4) => "three-or-more",
+            "any" if has(5) => self.random.one_of(&AT_MOST_ONE),
+            "any" => self.random.one_of(&PATTERNS[..8]),
+            named => named,
+        };
+        let good = self.shape_where(|s| {
+            (pattern != "data+data" || s.k > 1)
+                && (damage != Damage::Lanes || s.b > 1)
+                && (damage != Damage::Imaginary || s.k < s.m)
+                && (!has(9) || s.k + 2 < PLACES)
+        });
+        let absent = self.absent(good, pattern);
+        let mut map = Map::all_but(good.columns(), &absent);
+        let mut stripe = self.valid_stripe(good);
+        self.damage(good, &mut stripe, damage);
+        if has(5) {
+            let present: Vec<usize> = (0..good.columns()).filter(|c| !absent.contains(c)).collect();
+            let column = self.random.one_of(&present);
+            self.hurt(good, &mut stripe, column);
+        }
+        let stale = self.random.below(5);
+        for byte in absent.into_iter().flat_map(|column| good.column(column)) {
+            match stale {
+                0 => {}
+                1 => stripe[byte] = 0,
+                2 => stripe[byte] = 255,
+                _ => stripe[byte] = self.random.byte(),
+            }
+        }
+        if has(9) {
+            let drawn = good.columns() + self.random.below(PLACES - good.columns());
+            map.0[self.random.one_of(&[good.columns(), PLACES - 1, drawn])] = true;
+        }
+        let mut bench = self.random.bytes(good.bench_length());
+        let shape = if has(1) { self.bad_shape(good, None) } else { good };
+        // Where a bad shape still has small products, the lengths follow it.
+        let column = shape.m.wrapping_sub(1).wrapping_mul(shape.b);
+        let length = shape.k.wrapping_add(2).wrapping_mul(column);
+        if has(1) && length <= 30_000 { stripe.resize(length, 7); }
+        if has(1) && column <= 10_000 { bench.resize(2 * column, 7); }
+        if has(2) { self.bad_length(&mut stripe, good.column_length()); }
+        if has(3) { self.bad_length(&mut bench, good.column_length()); }
+        Scene { made_for: good, shape, map, stripe, bench }
+    }
+
+    fn make(&mut self, recipe: &Recipe) -> Case {
+        let first = |order: &[u8], faults: &[u8]| order.iter().copied().find(|n| faults.contains(n)).unwrap_or(FINE);
+        match recipe {
+            Recipe::Plain(operation, faults, damage) => {
+                let s = self.scene(faults, "none", *damage);
+                let request = operation(s.shape, s.stripe);
+                let expected = match (first(&[1, 2], faults), damage, request.word()) {
+                    (FINE, Damage::Lanes | Damage::Imaginary, "mend") => Some(NOT_MENDABLE),
+                    (FINE, Damage::TwoColumns | Damage::Garbage, "mend") => None,
+                    (number, _, _) => Some(number),
+                };
+                Case { request, expected }
+            }
+            Recipe::Restore(faults, pattern, damage) => {
+                let s = self.scene(faults, pattern, *damage);
+                let expected = match (first(&RESTORE_ORDER, faults), damage) {
+                    (FINE, _) if *pattern == "three-or-more" => Some(TOO_MANY_ABSENT),
+                    (FINE, Damage::TwoColumns) if *pattern == "none" => Some(NONE_FITS),
+                    (FINE, Damage::TwoColumns | Damage::Garbage) if AT_MOST_ONE.contains(pattern) => None,
+                    (number, _) => Some(number),
+                };
+                Case { request: Request::Restore(s.shape, s.map, s.stripe, s.bench), expected }
+            }
+            Recipe::Show(faults, pattern) => {
+                let s = self.scene(faults, pattern, Damage::None);
+                let (columns, absent) = (s.made_for.columns(), s.map.absent(s.made_for));
+                let column = if faults.contains(&7) {
+                    self.random.one_of(&[columns, columns, columns + 1, 128.max(columns), 129, 256, MAX])
+                } else if !absent.is_empty() && self.random.below(2) == 0 {
+                    self.random.one_of(&absent)
+                } else {
+                    self.random.below(columns)
+                };
+                let number = first(&SHOW_ORDER, faults);
+                let expected = if number == FINE && absent.len() > 2 { TOO_MANY_ABSENT } else { number };
+                Case { request: Request::Show(s.shape, s.map, s.stripe, s.bench, column), expected: Some(expected) }
+            }
+            Recipe::Mark(good) => {
+                let mut map = Map::new();
+                let way = self.random.below(3);
+                map.0.iter_mut().for_each(|state| *state = way == 2 || way == 1 && self.random.below(2) == 0);
+                let low = self.random.below(PLACES);
+                let places = if *good { [low, low, 0, 128] } else { [129, 130, 256 + low, MAX] };
+                let request = Request::Mark(map, self.random.one_of(&places), self.random.below(2) == 0);
+                Case { request, expected: Some(if *good { FINE } else { BAD_NUMBER }) }
+            }
+            Recipe::Contents(flaws, pattern) => {
+                let (image, number, _) = self.image(flaws, pattern, Damage::None);
+                Case { request: Request::Contents(image), expected: Some(number) }
+            }
+            Recipe::Read(flaws, pattern, right) => {
+                let (image, number, shape) = self.image(flaws, pattern, Damage::None);
+                let length = shape.stripe_length();
+                let mut stripe = self.random.bytes(if length <= 60_000 { length } else { 0 });
+                if !right { self.bad_length(&mut stripe, shape.column_length().min(1_000)); }
+                let expected = if number == FINE && stripe.len() != length { BAD_STRIPE } else { number };
+                Case { request: Request::Read(image, stripe), expected: Some(expected) }
+            }
+        }
+    }
+
+    /// An image with the flaws named, the number its contents must give, and the shape it was made for.
+    fn image(&mut self, flaws: &[Flaw], pattern: &str, damage: Damage) -> (Vec<u8>, u8, Shape) {
+        let pattern = if pattern == "any" { self.random.one_of(&PATTERNS) } else { pattern };
+        let shape = match pattern {
+            "all" if self.random.below(2) == 0 => {
+                let (m, drawn) = (self.random.one_of(&self.primes), 1 + self.random.below(4096));
+                Shape { m, k: 1 + self.random.below(m), b: self.random.one_of(&[1, 255, 256, drawn, 4096]) }
+            }
+            // Offsets that need more than two bytes.
+            "far" => Shape { m: 41, k: 37 + self.random.below(5), b: 48 },
+            _ => self.shape_where(|s| pattern != "data+data" || s.k > 1),
+        };
+        let absent = self.absent(shape, if pattern == "far" { "data+H" } else { pattern });
+        let mut stripe = Vec::new();
+        if pattern != "all" {
+            stripe = self.valid_stripe(shape);
+            self.damage(shape, &mut stripe, damage);
+        }
+        let image = self.draw(shape, &absent, &stripe, flaws);
+        let number = match flaws {
+            [] => FINE,
+            _ if flaws.contains(&Flaw::Short) || flaws.contains(&Flaw::Fourth) => BAD_IMAGE,
+            _ if flaws.contains(&Flaw::Shape) => BAD_SHAPE,
+            _ => BAD_IMAGE,
+        };
+        (image, number, shape)
+    }
+
+    fn draw(&mut self, shape: Shape, absent: &[usize], stripe: &[u8], flaws: &[Flaw]) -> Vec<u8> {
+        let columns = shape.columns();
+        let start = 8 + 8 * columns;
+        let mut header = [shape.m, shape.k, shape.b, 0];
+        let mut entries = Vec::new();
+        let mut body = Vec::new();
+        for column in 0..columns {
+            if absent.contains(&column) {
+                entries.push([column, 0, 0, 0]);
+            } else {
+                entries.push([column, 1, 0, start + body.len()]);
+                body.extend(&stripe[shape.column(column)]);
+            }
+        }
+        let any = self.random.below(columns);
+        let one = if absent.is_empty() || self.random.below(2) == 0 { any } else { self.random.one_of(absent) };
+        for flaw in flaws {
+            let entry = &mut entries[one];
+            match flaw {
+                Flaw::Fourth => header[3] = self.random.one_of(&[1, 255, 256, 65_535]),
+                Flaw::Shape => {
+                    let bad = self.bad_shape(shape, Some(65_535));
+                    header = [bad.m, bad.k, bad.b, header[3]];
+                }
+                Flaw::Offset => entry[3] = self.random.one_of(&[entry[3] + 1, entry[3] ^ 256, entry[3] ^ 1 << 24]),
+                Flaw::State => entry[1] = self.random.one_of(&[2, 2, 3, 128, 129, 254, 255]),
+                Flaw::Flip => entry[1] ^= 1,
+                Flaw::Column => entry[0] = self.random.one_of(&[one + 1, one ^ 1, one + 256, 65_535]),
+                Flaw::Swap => entries.swap(one, (one + 1) % columns),
+                Flaw::Pad => entry[2] = self.random.nonzero() as usize,
+                Flaw::Gap => {
+                    body.insert(0, 0);
+                    entries.iter_mut().filter(|entry| entry[1] == 1).for_each(|entry| entry[3] += 1);
+                }
+                _ => {}
+            }
+        }
+        let mut image: Vec<u8> = header.iter().flat_map(|&n| (n as u16).to_le_bytes()).collect();
+        for [column, state, pad, offset] in entries {
+            image.extend((column as u16).to_le_bytes());
+            image.extend([state as u8, pad as u8]);
+            image.extend((offset as u32).to_le_bytes());
+        }
+        image.extend(body);
+        for flaw in flaws {
+            match flaw {
+                Flaw::Short => image.truncate(self.random.below(8)),
+                Flaw::EightOnly => image.truncate(8),
+                Flaw::ContentsCut => image.truncate(8 + self.random.below(start - 8)),
+                Flaw::BodyCut if image.len() > start => image.truncate(start + self.random.below(image.len() - start)),
+                Flaw::BodyCut => image.truncate(start - 1),
+                Flaw::Trailing => image.resize(image.len() + 1 + self.random.below(4), self.random.byte()),
+                _ => {}
+            }
+        }
+        image
+    }
+
+    /// A well-formed image of exactly this size with at most two columns absent.
+    fn sized(&mut self, size: usize, damage: Damage) -> Vec<u8> {
+        loop {
+            let m = self.random.one_of(&self.primes);
+            let k = 1 + self.random.below(m);
+            let missing = self.random.below(3);
+            let (bodies, unit) = (size - 8 - 8 * (k + 2), (k + 2 - missing) * (m - 1));
+            let shape = Shape { m, k, b: bodies / unit };
+            if bodies % unit == 0 && shape.judge() == FINE {
+                let mut stripe = self.valid_stripe(shape);
+                self.damage(shape, &mut stripe, damage);
+                let absent = self.random.two(k + 2);
+                return self.draw(shape, &absent[..missing], &stripe, &[]);
+            }
+        }
+    }
+
+    /// An image with the answer `shelf` must give for it, where the making settles that.
+    fn shelf_case(&mut self, flaws: &[Flaw], pattern: &str, damage: Damage) -> (Vec<u8>, Option<u8>) {
+        let (image, number, _) = self.image(flaws, pattern, damage);
+        let answer = match number {
+            _ if image.len() > INPUT_LIMIT => INPUT_TOO_LONG,
+            FINE if pattern == "three-or-more" || pattern == "all" => TOO_MANY_ABSENT,
+            FINE if pattern == "none" && damage == Damage::OneColumn => NONE_FITS,
+            FINE if AT_MOST_ONE.contains(&pattern) && damage != Damage::None => return (image, None),
+            number => number,
+        };
+        (image, Some(answer))
+    }
+
+    fn shelf_image(&mut self, turn: usize) -> (Vec<u8>, Option<u8>) {
+        match turn % 60 {
+            n @ 0..9 => self.shelf_case(&[], PATTERNS[n], Damage::None),
+            9 => self.shelf_case(&[], "all", Damage::None),
+            n @ 10..14 => self.shelf_case(&[], PATTERNS[n - 10], Damage::OneColumn),
+            n @ 14..28 => self.shelf_case(&[FLAWS[n - 14]], "any", Damage::None),
+            n @ 28..42 => self.shelf_case(&[Flaw::Shape, FLAWS[n - 28]], "any", Damage::None),
+            n @ 42..46 => self.shelf_case(&[], PATTERNS[n - 38], Damage::Garbage),
+            46 => (self.sized(INPUT_LIMIT, Damage::None), Some(FINE)),
+            47 => (self.sized(INPUT_LIMIT, Damage::OneColumn), None),
+            48 => ([self.sized(INPUT_LIMIT, Damage::None), vec![0]].concat(), Some(INPUT_TOO_LONG)),
+            49 => (self.sized(INPUT_LIMIT + 2, Damage::None), Some(INPUT_TOO_LONG)),
+            50 => ([self.sized(INPUT_LIMIT - 2, Damage::None), vec![0, 0]].concat(), Some(BAD_IMAGE)),
+            51 => (self.sized(INPUT_LIMIT - 2, Damage::None), Some(FINE)),
+            52 => (vec![0; INPUT_LIMIT], Some(BAD_SHAPE)),
+            53 => (vec![0; INPUT_LIMIT + 1], Some(INPUT_TOO_LONG)),
+            54 => (self.random.bytes(INPUT_LIMIT + 1), Some(INPUT_TOO_LONG)),
+            55 => (self.random.bytes(2 * INPUT_LIMIT), Some(INPUT_TOO_LONG)),
+            56 => (Vec::new(), Some(BAD_IMAGE)),
+            57 => (vec![255; INPUT_LIMIT], Some(BAD_IMAGE)),
+            _ => {
+                let flaws = self.random.two(FLAWS.len()).map(|n| FLAWS[n]);
+                (self.image(&flaws, "any", Damage::None).0, None)
+            }
+        }
+    }
+}

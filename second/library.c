@@ -1,0 +1,140 @@
+/* Answers the requests of the second program with the library, through its C interface. Reads one request a line from standard
+   input and writes one answer a line. Every buffer that is lent stands between guard bytes; a guard that changed is reported and
+   ends the run. Marks and contents are no calls of the C interface: their requests are answered with an empty line. */
+#include <stdint.h>
+#include <stdio.h>
+#include <stdlib.h>
+#include <string.h>
+#include "../include/oarwillow.h"
+
+enum { GUARD = 64, FIELDS = 9 };
+
+typedef struct {
+    uint8_t *room, *bytes;
+    size_t length;
+} Buffer;
+
+static int digit(char c)
+{
+    if (c >= '0' && c <= '9')
+        return c - '0';
+    if (c >= 'a' && c <= 'f')
+        return c - 'a' + 10;
+    fprintf(stderr, "not a hex digit: %c\n", c);
+    exit(2);
+}
+
+/* The bytes of a hex field between guards; `-` is no bytes. */
+static Buffer buffer(const char *hex)
+{
+    size_t n = strcmp(hex, "-") == 0 ? 0 : strlen(hex) / 2;
+    Buffer b = {malloc(n + 2 * GUARD), NULL, n};
+    memset(b.room, 0xa5, n + 2 * GUARD);
+    b.bytes = b.room + GUARD;
+    for (size_t i = 0; i < n; i++)
+        b.bytes[i] = (uint8_t)(digit(hex[2 * i]) << 4 | digit(hex[2 * i + 1]));
+    return b;
+}
+
+static void done(Buffer b)
+{
+    for (size_t i = 0; i < GUARD; i++)
+        if (b.room[i] != 0xa5 || b.bytes[b.length + i] != 0xa5) {
+            fprintf(stderr, "a byte outside a lent buffer was written\n");
+            exit(1);
+        }
+    free(b.room);
+}
+
+static void print_bytes(Buffer b)
+{
+    static const char hex[] = "0123456789abcdef";
+    if (b.length == 0)
+        putchar('-');
+    for (size_t i = 0; i < b.length; i++) {
+        putchar(hex[b.bytes[i] >> 4]);
+        putchar(hex[b.bytes[i] & 15]);
+    }
+}
+
+static size_t number(const char *field)
+{
+    return (size_t)strtoull(field, NULL, 10);
+}
+
+static void map_of(const char *field, uint8_t places[129])
+{
+    for (size_t i = 0; i < 129; i++)
+        places[i] = field[i] == '1';
+}
+
+static void answer(char **f)
+{
+    size_t m = f[1] ? number(f[1]) : 0, k = f[2] ? number(f[2]) : 0, b = f[3] ? number(f[3]) : 0;
+    uint8_t places[129];
+    if (strcmp(f[0], "encode") == 0) {
+        Buffer s = buffer(f[4]);
+        printf("%u ", oarwillow_encode(m, k, b, s.bytes, s.length));
+        print_bytes(s);
+        done(s);
+    } else if (strcmp(f[0], "check") == 0) {
+        Buffer s = buffer(f[4]);
+        size_t rows = 77, diagonals = 77;
+        unsigned r = oarwillow_check(m, k, b, s.bytes, s.length, &rows, &diagonals);
+        printf("%u %zu %zu", r, rows, diagonals);
+        done(s);
+    } else if (strcmp(f[0], "restore") == 0) {
+        Buffer s = buffer(f[5]), w = buffer(f[6]);
+        size_t count = 77, first = 77, second = 77;
+        map_of(f[4], places);
+        unsigned r = oarwillow_restore(m, k, b, places, s.bytes, s.length, w.bytes, w.length, &count, &first, &second);
+        printf("%u %zu %zu %zu ", r, count, first, second);
+        print_bytes(w);
+        done(s);
+        done(w);
+    } else if (strcmp(f[0], "mend") == 0) {
+        Buffer s = buffer(f[4]);
+        size_t column = 77;
+        unsigned r = oarwillow_mend(m, k, b, s.bytes, s.length, &column);
+        printf("%u %zu ", r, column);
+        print_bytes(s);
+        done(s);
+    } else if (strcmp(f[0], "show") == 0) {
+        Buffer s = buffer(f[5]), w = buffer(f[6]);
+        size_t from = 77, start = 77, length = 77;
+        map_of(f[4], places);
+        unsigned r = oarwillow_show(m, k, b, places, s.bytes, s.length, w.bytes, w.length, number(f[7]), &from, &start, &length);
+        printf("%u %zu %zu %zu", r, from, start, length);
+        done(s);
+        done(w);
+    } else if (strcmp(f[0], "read") == 0) {
+        Buffer image = buffer(f[1]), s = buffer(f[2]);
+        memset(places, 77, sizeof places);
+        unsigned r = oarwillow_read(image.bytes, image.length, s.bytes, s.length, places, &m, &k, &b);
+        printf("%u %zu %zu %zu ", r, m, k, b);
+        for (size_t i = 0; i < 129; i++)
+            printf("%u", places[i]);
+        putchar(' ');
+        print_bytes(s);
+        done(image);
+        done(s);
+    }
+    putchar('\n');
+}
+
+int main(void)
+{
+    char *line = NULL;
+    size_t room = 0;
+    ssize_t n;
+    while ((n = getline(&line, &room, stdin)) > 0) {
+        char *fields[FIELDS] = {0}, *rest = line;
+        if (line[n - 1] == '\n')
+            line[n - 1] = 0;
+        for (int i = 0; i < FIELDS && rest; i++)
+            fields[i] = strsep(&rest, " ");
+        answer(fields);
+    }
+    free(line);
+    return 0;
+}

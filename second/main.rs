@@ -1,0 +1,90 @@
+//! A second program for EVENODD-coded stripes, for comparing with another build.
+
+mod code;
+mod generate;
+mod image;
+mod numbers;
+mod requests;
+mod selftest;
+mod tally;
+
+use requests::Request;
+use std::io::{self, BufRead, BufWriter, Read, Write};
+use std::process::ExitCode;
+
+const USAGE: &str = "usage: model shelf < image
+       model numbers
+       model selftest
+       model answer < requests
+       model tally < requests
+       model generate SEED COUNT
+       model images SEED COUNT DIR";
+
+fn answer(out: &mut impl Write) -> io::Result<bool> {
+    let mut good = true;
+    for line in io::stdin().lock().lines() {
+        match Request::parse(&line?) {
+            Some(request) => writeln!(out, "{}", request.answer())?,
+            None => {
+                good = false;
+                writeln!(out, "malformed")?;
+            }
+        }
+    }
+    Ok(good)
+}
+
+fn run(arguments: &[&str], out: &mut impl Write) -> io::Result<bool> {
+    match arguments {
+        ["shelf"] => {
+            let mut image = Vec::new();
+            io::stdin().lock().read_to_end(&mut image)?;
+            out.write_all(image::shelf(&image).as_bytes())?;
+            Ok(true)
+        }
+        ["numbers"] => {
+            for number in numbers::all() {
+                writeln!(out, "{} {} {}", number.name, number.word, number.computed)?;
+            }
+            Ok(true)
+        }
+        ["selftest"] => selftest::run(out),
+        ["answer"] => answer(out),
+        ["tally"] => tally::run(io::stdin().lock(), out),
+        ["generate", seed, count] => {
+            let (Ok(seed), Ok(count)) = (seed.parse(), count.parse()) else { return usage() };
+            for case in generate::Maker::new(seed).cases(count) {
+                writeln!(out, "{}", case.request)?;
+            }
+            Ok(true)
+        }
+        ["images", seed, count, folder] => {
+            let (Ok(seed), Ok(count)) = (seed.parse(), count.parse()) else { return usage() };
+            std::fs::create_dir_all(folder)?;
+            for (n, (image, _)) in generate::Maker::new(seed).shelf_images(count).enumerate() {
+                std::fs::write(format!("{folder}/{n:05}.img"), image)?;
+            }
+            Ok(true)
+        }
+        _ => usage(),
+    }
+}
+
+fn usage() -> io::Result<bool> {
+    eprintln!("{USAGE}");
+    Ok(false)
+}
+
+fn main() -> ExitCode {
+    let arguments: Vec<String> = std::env::args().skip(1).collect();
+    let arguments: Vec<&str> = arguments.iter().map(String::as_str).collect();
+    let mut out = BufWriter::new(io::stdout().lock());
+    match run(&arguments, &mut out).and_then(|good| out.flush().map(|()| good)) {
+        Ok(true) => ExitCode::SUCCESS,
+        Ok(false) => ExitCode::FAILURE,
+        Err(error) => {
+            eprintln!("{error}");
+            ExitCode::FAILURE
+        }
+    }
+}

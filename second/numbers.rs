@@ -1,0 +1,110 @@
+//! The numbers of the document, as requests with the answers the document gives.
+
+use crate::code::*;
+use crate::image::shelf;
+use crate::requests::{Request, bytes_of, hex};
+
+pub struct Number { pub name: &'static str, pub word: &'static str, pub computed: String, pub expected: String }
+
+const C1: &str = "010204081020152a391e";
+const C1_05: &str = "010205081020152a391e";
+const C3: &str = "00000000000000010100010100000001010101000001000101010001";
+const C9: &str = "01020408150a191e";
+pub const C5_IMAGE: &str = "0300030001000000\
+    0000000000000000\
+    0100010030000000\
+    0200000000000000\
+    0300010032000000\
+    0400010034000000\
+    0408152a391e";
+const C5_TEXT: &str = "shape 3 3 1|0 restored 0102|1 present 0408|2 restored 1020|\
+    3 present 152a|4 present 391e|answer 0|";
+
+fn present(places: &[usize]) -> String {
+    (0..PLACES).map(|p| if places.contains(&p) { '1' } else { '0' }).collect()
+}
+
+fn ask(name: &'static str, request: String, expected: String) -> Number {
+    let request = Request::parse(&request).expect("the request is written rightly");
+    Number { name, word: request.word(), computed: request.answer(), expected }
+}
+
+fn zeros(count: usize) -> String { "00".repeat(count) }
+
+pub fn all() -> Vec<Number> {
+    let bytes = |text| bytes_of(text).expect("the bytes are written rightly");
+    let c1_shape = Shape { m: 3, k: 3, b: 1 };
+    let cols_134 = present(&[1, 3, 4]);
+    let cols_13456 = present(&[1, 3, 4, 5, 6]);
+    let s = |t: &str| t.to_string();
+    let mut list = vec![
+        ask("C1", s("encode 3 3 1 01020408102000000000"), format!("0 {C1}")),
+        Number { name: "C1", word: "S", computed: hex(&main_sum(c1_shape, &bytes(C1))), expected: s("18") },
+        ask("C2", s("encode 3 1 1 010200000000"), s("0 010201020102")),
+        ask("C3", format!("encode 5 5 1 {}{}", &C3[..40], zeros(8)), format!("0 {C3}")),
+        ask(
+            "C4",
+            format!("restore 5 5 1 {cols_13456} ffffffff{}ffffffff{} {}", &C3[8..16], &C3[24..], zeros(8)),
+            s("0 2 0 2 0000000001000101"),
+        ),
+        ask("C5", format!("restore 3 3 1 {cols_134} ffff0408ffff152a391e 00000000"), s("0 2 0 2 01021020")),
+        ask("C6", format!("restore 3 3 1 {} {C1_05} a1a2a3a4", present(&[1, 2, 3, 4])), s("5 0 129 129 a1a2a3a4")),
+        ask("C7", format!("restore 3 3 1 {cols_134} {C1_05} 00000000"), s("0 2 0 2 00031021")),
+        ask("C8", format!("check 3 3 1 {C1_05}"), s("0 1 1")),
+        ask("C8", format!("mend 3 3 1 {C1_05}"), format!("0 1 {C1}")),
+        ask("C9", format!("check 3 2 1 {C9}"), s("0 1 2")),
+        ask("C9", format!("mend 3 2 1 {C9}"), format!("6 129 {C9}")),
+        ask("C10", format!("restore 3 3 1 {} {C1} a1a2a3a4", present(&[3, 4])), s("4 0 129 129 a1a2a3a4")),
+        ask("C11", format!("check 3 3 1 {}", zeros(10)), s("0 0 0")),
+        ask("C11", format!("mend 3 3 1 {}", zeros(10)), format!("0 129 {}", zeros(10))),
+    ];
+    let shapes = [
+        ("m=2", [2, 1, 1], 1),
+        ("m=9", [9, 1, 1], 1),
+        ("m=129", [129, 1, 1], 1),
+        ("m=131", [131, 1, 1], 1),
+        ("m=127", [127, 1, 1], 0),
+        ("k=0", [3, 0, 1], 1),
+        ("k=4", [3, 4, 1], 1),
+        ("k=3", [3, 3, 1], 0),
+        ("b=0", [3, 1, 0], 1),
+        ("b=4097", [3, 1, 4097], 1),
+        ("b=4096", [3, 1, 4096], 0),
+    ];
+    for (name, [m, k, b], expected) in shapes {
+        let length = (k + 2) * (m - 1) * b;
+        let stripe = if length == 0 { s("-") } else { zeros(length) };
+        list.push(ask(name, format!("check {m} {k} {b} {stripe}"), format!("{expected} 0 0")));
+    }
+    let map = present(&[0, 1, 2, 3, 4]);
+    let stray = present(&[0, 1, 2, 3, 4, 5]);
+    // C1 in both byte lanes; lane 0 wrong in column 0, lane 1 wrong in column 1.
+    let mut lanes: Vec<u8> = bytes(C1).iter().flat_map(|&x| [x, x]).collect();
+    lanes[0] ^= 0x40;
+    lanes[5] ^= 0x40;
+    let lanes = hex(&lanes);
+    list.extend([
+        ask("length=9", format!("check 3 3 1 {}", &C1[..18]), s("2 0 0")),
+        ask("length=9", format!("encode 3 3 1 {}", &C1[..18]), format!("2 {}", &C1[..18])),
+        ask("length=11", format!("check 3 3 1 {C1}00"), s("2 0 0")),
+        ask("length=11", format!("encode 3 3 1 {C1}00"), format!("2 {C1}00")),
+        ask("place=5", format!("restore 3 3 1 {stray} {C1} a1a2a3a4"), s("9 0 129 129 a1a2a3a4")),
+        ask("place=5", format!("show 3 3 1 {stray} {C1} a1a2a3a4 0"), s("9 0 0 0")),
+        ask("shape+bench", format!("restore 2 3 1 {map} {C1} a1"), s("1 0 129 129 a1")),
+        ask("lanes", format!("mend 3 3 2 {lanes}"), format!("6 129 {lanes}")),
+        ask("08->09", s("check 3 3 1 010204091020152a391e"), s("0 1 2")),
+        ask("C5-image", format!("contents {C5_IMAGE}"), format!("0 3 3 1 {cols_134}")),
+        ask(
+            "C5-image",
+            format!("read {C5_IMAGE} b0b1b2b3b4b5b6b7b8b9"),
+            format!("0 3 3 1 {cols_134} b0b10408b4b5152a391e"),
+        ),
+        Number {
+            name: "C5-image",
+            word: "shelf",
+            computed: shelf(&bytes(C5_IMAGE)).replace('\n', "|"),
+            expected: s(C5_TEXT),
+        },
+    ]);
+    list
+}

@@ -1,0 +1,171 @@
+//! The text protocol: one request on a line, one answer on a line.
+
+use crate::code::*;
+use crate::image;
+use std::fmt;
+
+pub enum Request {
+    Encode(Shape, Vec<u8>),
+    Check(Shape, Vec<u8>),
+    Restore(Shape, Map, Vec<u8>, Vec<u8>),
+    Mend(Shape, Vec<u8>),
+    Show(Shape, Map, Vec<u8>, Vec<u8>, usize),
+    Mark(Map, usize, bool),
+    Read(Vec<u8>, Vec<u8>),
+    Contents(Vec<u8>),
+}
+
+use Request::*;
+
+pub fn hex(bytes: &[u8]) -> String {
+    const DIGITS: &[u8; 16] = b"0123456789abcdef";
+    let mut text = String::with_capacity(2 * bytes.len());
+    for byte in bytes {
+        text.push(DIGITS[(byte >> 4) as usize] as char);
+        text.push(DIGITS[(byte & 15) as usize] as char);
+    }
+    text
+}
+
+/// Hex for a field: an empty byte string is a dash.
+fn field(bytes: &[u8]) -> String {
+    if bytes.is_empty() { "-".to_string() } else { hex(bytes) }
+}
+
+pub fn bytes_of(text: &str) -> Option<Vec<u8>> {
+    if text == "-" { return Some(Vec::new()); }
+    let digit = |c: u8| match c {
+        b'0'..=b'9' => Some(c - b'0'),
+        b'a'..=b'f' => Some(c - b'a' + 10),
+        _ => None,
+    };
+    if text.is_empty() || text.len() % 2 == 1 { return None; }
+    text.as_bytes().chunks(2).map(|pair| Some(digit(pair[0])? * 16 + digit(pair[1])?)).collect()
+}
+
+fn number_of(text: &str) -> Option<usize> {
+    if text.bytes().all(|c| c.is_ascii_digit()) { text.parse().ok() } else { None }
+}
+
+fn state_of(text: &str) -> Option<bool> {
+    match text {
+        "0" => Some(false),
+        "1" => Some(true),
+        _ => None,
+    }
+}
+
+fn map_of(text: &str) -> Option<Map> {
+    if text.len() != PLACES || !text.bytes().all(|c| c == b'0' || c == b'1') { return None; }
+    let mut map = Map::new();
+    text.bytes().enumerate().for_each(|(place, c)| map.0[place] = c == b'1');
+    Some(map)
+}
+
+impl fmt::Display for Map {
+    fn fmt(&self, f: &mut fmt::Formatter) -> fmt::Result {
+        f.write_str(&self.0.iter().map(|&present| if present { '1' } else { '0' }).collect::<String>())
+    }
+}
+
+impl fmt::Display for Shape {
+    fn fmt(&self, f: &mut fmt::Formatter) -> fmt::Result {
+        write!(f, "{} {} {}", self.m, self.k, self.b)
+    }
+}
+
+impl fmt::Display for Request {
+    fn fmt(&self, f: &mut fmt::Formatter) -> fmt::Result {
+        let word = self.word();
+        match self {
+            Encode(n, s) | Check(n, s) | Mend(n, s) => write!(f, "{word} {n} {}", field(s)),
+            Restore(n, map, s, bench) => write!(f, "{word} {n} {map} {} {}", field(s), field(bench)),
+            Show(n, map, s, bench, column) => {
+                write!(f, "{word} {n} {map} {} {} {column}", field(s), field(bench))
+            }
+            Mark(map, place, state) => write!(f, "{word} {map} {place} {}", *state as u8),
+            Read(image, s) => write!(f, "{word} {} {}", field(image), field(s)),
+            Contents(image) => write!(f, "{word} {}", field(image)),
+        }
+    }
+}
+
+impl Request {
+    pub fn word(&self) -> &'static str {
+        match self {
+            Encode(..) => "encode",
+            Check(..) => "check",
+            Restore(..) => "restore",
+            Mend(..) => "mend",
+            Show(..) => "show",
+            Mark(..) => "mark",
+            Read(..) => "read",
+            Contents(..) => "contents",
+        }
+    }
+
+    pub fn parse(line: &str) -> Option<Request> {
+        let parts: Vec<&str> = line.split(' ').collect();
+        let shape = || -> Option<Shape> {
+            Some(Shape { m: number_of(parts[1])?, k: number_of(parts[2])?, b: number_of(parts[3])? })
+        };
+        Some(match (parts[0], parts.len()) {
+            ("encode", 5) => Encode(shape()?, bytes_of(parts[4])?),
+            ("check", 5) => Check(shape()?, bytes_of(parts[4])?),
+            ("mend", 5) => Mend(shape()?, bytes_of(parts[4])?),
+            ("restore", 7) => {
+                Restore(shape()?, map_of(parts[4])?, bytes_of(parts[5])?, bytes_of(parts[6])?)
+            }
+            ("show", 8) => {
+                let (map, column) = (map_of(parts[4])?, number_of(parts[7])?);
+                Show(shape()?, map, bytes_of(parts[5])?, bytes_of(parts[6])?, column)
+            }
+            ("mark", 4) => Mark(map_of(parts[1])?, number_of(parts[2])?, state_of(parts[3])?),
+            ("read", 3) => Read(bytes_of(parts[1])?, bytes_of(parts[2])?),
+            ("contents", 2) => Contents(bytes_of(parts[1])?),
+            _ => return None,
+        })
+    }
+
+    /// The answer line, without its end.
+    pub fn answer(&self) -> String {
+        match self {
+            Encode(n, stripe) => {
+                let mut stripe = stripe.clone();
+                let done = encode(*n, &mut stripe);
+                format!("{} {}", done.number, field(&stripe))
+            }
+            Check(n, stripe) => {
+                let done = check(*n, stripe);
+                format!("{} {} {}", done.number, done.rows, done.diagonals)
+            }
+            Restore(n, map, stripe, bench) => {
+                let mut bench = bench.clone();
+                let done = restore(*n, map, stripe, &mut bench);
+                format!("{} {} {} {} {}", done.number, done.count, done.first, done.second, field(&bench))
+            }
+            Mend(n, stripe) => {
+                let mut stripe = stripe.clone();
+                let done = mend(*n, &mut stripe);
+                format!("{} {} {}", done.number, done.column, field(&stripe))
+            }
+            Show(n, map, stripe, bench, column) => {
+                let done = show(*n, map, stripe, bench, *column);
+                format!("{} {} {} {}", done.number, done.from_bench as u8, done.start, done.length)
+            }
+            Mark(map, place, state) => {
+                let done = mark(*map, *place, *state);
+                format!("{} {}", done.number, done.map)
+            }
+            Read(image, stripe) => {
+                let mut stripe = stripe.clone();
+                let done = image::read(image, &mut stripe);
+                format!("{} {} {} {}", done.number, done.shape, done.map, field(&stripe))
+            }
+            Contents(image) => {
+                let done = image::contents(image);
+                format!("{} {} {}", done.number, done.shape, done.map)
+            }
+        }
+    }
+}

@@ -1,0 +1,234 @@
+//! Counts what a list of requests covers.
+
+use crate::code::*;
+use crate::generate::{AT_MOST_ONE, BAD_B, BAD_K, BAD_M, PATTERNS, RESTORE_PAIRS, SHOW_PAIRS, SIZES};
+use crate::image;
+use crate::requests::Request;
+use std::collections::BTreeMap;
+use std::io::{self, BufRead, Write};
+
+const ANSWERS: [(&str, &[u8]); 8] = [
+    ("encode", &[0, 1, 2]),
+    ("check", &[0, 1, 2]),
+    ("restore", &[0, 1, 2, 3, 4, 5, 9]),
+    ("mend", &[0, 1, 2, 6]),
+    ("show", &[0, 1, 2, 3, 4, 7, 9]),
+    ("mark", &[0, 7]),
+    ("read", &[0, 1, 2, 8]),
+    ("contents", &[0, 1, 8]),
+];
+
+const SINGLE: [&str; 24] = [
+    "encode pair 1+2", "check pair 1+2", "mend pair 1+2",
+    "check intact", "check rows-only", "check diagonals-only", "check both",
+    "restore stale",
+    "mend intact", "mend data", "mend H", "mend D", "mend 6 imaginary", "mend 6 lanes",
+    "show stripe", "show first-half", "show second-half",
+    "mark changed", "mark same",
+    "k=1", "k=m", "1<k<m", "refused k=m+1",
+    "contents far",
+];
+
+const IMAGE_FAULTS: [&str; 11] = [
+    "none", "short", "fourth", "shape", "contents-cut", "column", "state", "pad", "offset", "body-cut", "trailing",
+];
+
+fn expected_cells() -> Vec<String> {
+    let mut cells: Vec<String> = Vec::new();
+    for (word, answers) in ANSWERS {
+        cells.extend(answers.iter().map(|number| format!("{word} {number}")));
+    }
+    cells.extend(PATTERNS.iter().map(|name| format!("pattern {name}")));
+    cells.extend(AT_MOST_ONE.iter().map(|name| format!("pattern {name} refused 5")));
+    cells.extend(RESTORE_PAIRS.iter().map(|[x, y]| format!("restore pair {x}+{y}")));
+    cells.extend(SHOW_PAIRS.iter().map(|[x, y]| format!("show pair {x}+{y}")));
+    cells.extend(SINGLE.iter().map(|name| name.to_string()));
+    cells.extend(BAD_M.iter().map(|m| format!("refused m={m}")));
+    cells.extend(BAD_K.iter().map(|k| format!("refused k={k}")));
+    cells.extend(BAD_B.iter().map(|b| format!("refused b={b}")));
+    cells.extend((3..=127).filter(|&m| is_odd_prime(m)).map(|m| format!("m={m}")));
+    cells.extend(SIZES.iter().map(|b| format!("b={b}")));
+    for word in ["read", "contents"] {
+        cells.extend(IMAGE_FAULTS.iter().map(|fault| format!("{word} fault {fault}")));
+    }
+    cells
+}
+
+fn pattern(shape: Shape, absent: &[usize]) -> &'static str {
+    let data = absent.iter().filter(|&&c| c < shape.k).count();
+    match (data, absent.contains(&shape.k), absent.contains(&(shape.k + 1))) {
+        (0, false, false) => "none",
+        (1, false, false) => "data",
+        (0, true, false) => "H",
+        (0, false, true) => "D",
+        (2, false, false) => "data+data",
+        (1, true, false) => "data+H",
+        (1, false, true) => "data+D",
+        (0, true, true) => "H+D",
+        _ => "three-or-more",
+    }
+}
+
+/// Every fault of a call with a map, each judged for itself.
+fn faults(shape: Shape, map: &Map, stripe: &[u8], bench: &[u8], column: usize) -> Vec<u8> {
+    let length = shape.m.wrapping_sub(1).wrapping_mul(shape.b);
+    let columns = shape.k.saturating_add(2);
+    let (inside, outside) = map.0.split_at(columns.min(PLACES));
+    let none_fits = || {
+        let clean = Map::all_but(columns, &map.absent(shape));
+        restore(shape, &clean, stripe, &mut vec![0; shape.bench_length()]).number == NONE_FITS
+    };
+    let all = [
+        (BAD_SHAPE, shape.judge() != FINE),
+        (BAD_STRIPE, stripe.len() != columns.wrapping_mul(length)),
+        (BAD_BENCH, bench.len() != length.wrapping_mul(2)),
+        (STRAY_PLACE, outside.iter().any(|&present| present)),
+        (BAD_NUMBER, column >= columns),
+        (TOO_MANY_ABSENT, inside.iter().filter(|&&present| !present).count() > 2),
+        (NONE_FITS, shape.judge() == FINE && none_fits()),
+    ];
+    all.iter().filter(|(_, holds)| *holds).map(|(number, _)| *number).collect()
+}
+
+struct Tally(BTreeMap<String, usize>);
+
+impl Tally {
+    fn add(&mut self, name: impl Into<String>) { *self.0.entry(name.into()).or_insert(0) += 1; }
+
+    fn shape(&mut self, Shape { m, k, b }: Shape) {
+        if (Shape { m, k, b }).judge() == FINE {
+            self.add(if k == 1 { "k=1" } else if k == m { "k=m" } else { "1<k<m" });
+            self.add(format!("m={m}"));
+            self.add(format!("b={b}"));
+        } else if m > 127 || !is_odd_prime(m) {
+            self.add(format!("refused m={m}"));
+        } else if k == m + 1 {
+            self.add("refused k=m+1");
+        } else if k == 0 || k > m {
+            self.add(format!("refused k={k}"));
+        } else {
+            self.add(format!("refused b={b}"));
+        }
+    }
+
+    fn plain(&mut self, word: &str, shape: Shape, stripe: &[u8]) {
+        self.shape(shape);
+        if faults(shape, &Map::new(), stripe, &[], 0).starts_with(&[1, 2]) {
+            self.add(format!("{word} pair 1+2"));
+        }
+    }
+
+    fn pairs(&mut self, word: &str, pairs: &[[u8; 2]], found: &[u8]) {
+        for [x, y] in pairs {
+            if found.contains(x) && found.contains(y) {
+                self.add(format!("{word} pair {x}+{y}"));
+            }
+        }
+    }
+
+    fn checked(&mut self, answer: &[usize]) {
+        self.add(match answer {
+            [0, 0, 0] => "check intact",
+            [0, _, 0] => "check rows-only",
+            [0, 0, _] => "check diagonals-only",
+            [0, ..] => "check both",
+            _ => "check refused",
+        });
+    }
+
+    fn restored(&mut self, shape: Shape, map: &Map, stripe: &[u8], bench: &[u8], number: u8) {
+        self.shape(shape);
+        self.pairs("restore", &RESTORE_PAIRS, &faults(shape, map, stripe, bench, 0));
+        if ![FINE, TOO_MANY_ABSENT, NONE_FITS].contains(&number) { return; }
+        let absent = map.absent(shape);
+        let refused = if number == NONE_FITS { " refused 5" } else { "" };
+        self.add(format!("pattern {}{refused}", pattern(shape, &absent)));
+        if number == FINE {
+            let mut filled = bench.to_vec();
+            restore(shape, map, stripe, &mut filled);
+            let stale = |(half, &c): (usize, &usize)| filled[shape.column(half)] != stripe[shape.column(c)];
+            if absent.iter().enumerate().any(stale) { self.add("restore stale"); }
+        }
+    }
+
+    fn mended(&mut self, shape: Shape, stripe: &[u8], answer: &[usize]) {
+        let Shape { m, k, b } = shape;
+        match answer {
+            [0, NO_COLUMN] => self.add("mend intact"),
+            [0, column] if *column < k => self.add("mend data"),
+            [0, column] => self.add(if *column == k { "mend H" } else { "mend D" }),
+            [6, _] => {
+                // The same stripe with the imaginary columns written out.
+                let (data, parity) = stripe.split_at(k * shape.column_length());
+                let mut wide = [data, &vec![0; (m - k) * shape.column_length()], parity].concat();
+                if mend(Shape { k: m, ..shape }, &mut wide).number == FINE { self.add("mend 6 imaginary"); }
+                let lane = |l: usize| stripe.iter().skip(l).step_by(b).copied().collect::<Vec<u8>>();
+                if b <= 16 && (0..b).all(|l| mend(Shape { b: 1, ..shape }, &mut lane(l)).number == FINE) {
+                    self.add("mend 6 lanes");
+                }
+            }
+            _ => {}
+        }
+    }
+
+    fn count(&mut self, request: &Request) {
+        let text = request.answer();
+        let answer: Vec<usize> = text.split(' ').map_while(|field| field.parse().ok()).collect();
+        let number = answer[0] as u8;
+        self.add(format!("{} {number}", request.word()));
+        match request {
+            Request::Encode(shape, stripe) => self.plain("encode", *shape, stripe),
+            Request::Check(shape, stripe) => {
+                self.plain("check", *shape, stripe);
+                self.checked(&answer);
+            }
+            Request::Mend(shape, stripe) => {
+                self.plain("mend", *shape, stripe);
+                self.mended(*shape, stripe, &answer[..2]);
+            }
+            Request::Restore(shape, map, stripe, bench) => self.restored(*shape, map, stripe, bench, number),
+            Request::Show(shape, map, stripe, bench, column) => {
+                self.shape(*shape);
+                self.pairs("show", &SHOW_PAIRS, &faults(*shape, map, stripe, bench, *column));
+                match answer[..] {
+                    [0, 0, ..] => self.add("show stripe"),
+                    [0, 1, 0, _] => self.add("show first-half"),
+                    [0, 1, ..] => self.add("show second-half"),
+                    _ => {}
+                }
+            }
+            Request::Mark(map, place, state) => {
+                let same = mark(*map, *place, *state).map == *map;
+                self.add(if same { "mark same" } else { "mark changed" });
+            }
+            Request::Read(bytes, _) => self.add(format!("read fault {}", image::contents(bytes).fault)),
+            Request::Contents(bytes) => {
+                self.add(format!("contents fault {}", image::contents(bytes).fault));
+                if number == FINE && bytes.len() > 65_536 { self.add("contents far"); }
+            }
+        }
+    }
+}
+
+pub fn run(requests: impl BufRead, out: &mut impl Write) -> io::Result<bool> {
+    let mut tally = Tally(BTreeMap::new());
+    let mut good = true;
+    for line in requests.lines() {
+        match Request::parse(&line?) {
+            Some(request) => tally.count(&request),
+            None => {
+                tally.add("malformed");
+                good = false;
+            }
+        }
+    }
+    for name in expected_cells() {
+        let count = tally.0.remove(&name).unwrap_or(0);
+        good &= count > 0;
+        writeln!(out, "{name} {count}")?;
+    }
+    for (name, count) in tally.0 {
+        writeln!(out, "other: {name} {count}")?;
+    }
+    Ok(good)
+}
