@@ -5,6 +5,7 @@
 --   put-same, put-count the same bytes by another name, and so many by another name
 --   put-part, put-added a lent part that came back with other bytes, or with something added
 --   put-copied          a lent part that came back as a run which was set before
+--   put-taken           a lent part that came back as a part of another list
 --   put-all             the whole run became another one
 --   put-then-added      a run that was set, and then added to
 --   added-put           a run added to from its start
@@ -13,7 +14,7 @@ use mathlib.Core.Path.{_≡_, refl, sym, ap, _∙_, subst}
 use mathlib.Core.List.{List}
 use Prim.Native.Nat.{ℕ, _+_, _-_, _≤_, _<_}
 use native.Mathlib.Omega.{arith}
-use lib.ListN.{length, getD, set, length-set, length-drop, List·getD-eq-default}
+use lib.ListN.{length, drop, getD, set, length-set, length-drop, List·getD-eq-default}
 use lib.Seq.{getD-set-same, getD-set-other, length-take-le}
 use borrow.Author.Count.{below-more}
 use borrow.Rule.Slice.PartMut.{putMid}
@@ -65,6 +66,13 @@ put-part w y at n f room l so = record {
   before = mid-before w y at n room l;
   after = mid-after w y at n room l;
 }
+
+pub put-taken : (w y z : List ℕ) (at from n : ℕ) → at + n ≤ length w → from + n ≤ length z → y ≡ part z from (from + n)
+    → Put w (putMid at (at + n - at) w y) at n (λ l. getD z (from + l) 0)
+put-taken w y z at from n room there e =
+    put-count (put-part w y at (at + n - at) (λ l. getD z (from + l) 0) (omega arith)
+    (ap length e ∙ length-take-le (from + n - from) (drop from z) (simp length-drop (omega arith)) ∙ omega arith)
+    (λ l h. ap (λ (v : List ℕ). getD v l 0) e ∙ part-at z from (from + n) l (omega arith))) (omega arith)
 
 -- the whole run became another one
 pub put-all : (x z y : List ℕ) (f : ℕ → ℕ) → length z ≡ length x → y ≡ z → ((l : ℕ) → l < length x → getD z l 0 ≡ f l) → Put x y 0 (length x) f

@@ -8,14 +8,13 @@
 --   nth-one, others-present    there is one absent place with so many below it; of at most two absent places the others are present
 --   counts-..                  the gaps below 0, and below t + 1 where those below t are known
 use mathlib.Core.Path.{_≡_, refl, sym, ap, _∙_}
-use mathlib.Core.Bool.{Bool, true, false, not, cond}
+use mathlib.Core.Bool.{Bool, true, false, not}
 use mathlib.Core.List.{List}
 use Prim.Native.Nat.{ℕ, zero, suc, _+_, _≤_, _<_}
 use native.Mathlib.Numerals.{add-one}
-use native.Mathlib.Nat.{eq-or-lt-of-le, le-of-suc-le-suc, not-suc-le-zero}
 use native.Mathlib.Decide.{ℕ-discrete, decLt}
 use native.Mathlib.Omega.{arith}
-use mathlib.Core.Logic.{_≢_, _⊎_, inl, inr, by-cases}
+use mathlib.Core.Logic.{_≢_, by-cases}
 use lib.ListN.{length, set, replicate, length-map, length-set, List·getD-eq-default}
 use lib.Seq.{getD-set-same, getD-set-other, ext-getD}
 use mir.Val.{Val}
@@ -23,6 +22,7 @@ use denote.Laws.{Is}
 use borrow.Author.Tests.{eq-eqb, ne-eqb}
 use Rattle.parity.specs.Sum.{count}
 use Rattle.parity.specs.Presence.{present, absences}
+use Rattle.parity.proofs.Count.{count-most, count-under}
 use Rattle.evenodd.specs.declared.maps.Map.{Map}
 use Rattle.evenodd.specs.declared.maps.Gaps.{Gaps}
 use Rattle.evenodd.specs.Maps.{Marks, absentBelow, NthAbsent, Counts}
@@ -74,26 +74,13 @@ unfolding absences absentBelow
 absences-below k map = refl
 
 pub below-most : (map : List Bool) (n : ℕ) → absentBelow n map ≤ n
-unfolding absentBelow count
-below-most map zero = omega arith
-below-most map (suc n) = go (not (present map n)) (below-most map n)
-  where
-    go : (b : Bool) → absentBelow n map ≤ n → cond b (suc (absentBelow n map)) (absentBelow n map) ≤ suc n
-    go true h = omega arith
-    go false h = omega arith
+unfolding absentBelow
+below-most map n = count-most n _
 
 -- an absent place below n is counted with those below it
 pub below-under : (map : List Bool) (t n : ℕ) → present map t ≡ false → t < n → absentBelow t map < absentBelow n map
-unfolding absentBelow count
-below-under map t zero e l = absurd (not-suc-le-zero l)
-below-under map t (suc n) e l = go (present map n) refl (below-under map t n e) (eq-or-lt-of-le (le-of-suc-le-suc l))
-  where
-    go : (b : Bool) → present map n ≡ b → (t < n → absentBelow t map < absentBelow n map) → (t ≡ n) ⊎ (t < n)
-        → absentBelow t map < cond (not b) (suc (absentBelow n map)) (absentBelow n map)
-    go true p ih (inl q) = absurd (let z : true ≡ false = sym p ∙ ap (present map) (sym q) ∙ e in let y : _≡_ {A = ℕ} 0 1 = cc in omega arith)
-    go true p ih (inr h) = ih h
-    go false p ih (inl q) = let x : absentBelow t map ≡ absentBelow n map = ap (λ i. absentBelow i map) q in omega arith
-    go false p ih (inr h) = let x = ih h in omega arith
+unfolding absentBelow
+below-under map t n e l = count-under n (λ x. not (present map x)) t (ap not e) l
 
 module _ {map : List Bool} {t : ℕ} where
   -- no absent place comes to be number j

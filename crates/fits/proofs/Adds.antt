@@ -1,8 +1,11 @@
--- Why the cells of a buffer get the lines of `lineBut` added: line by line, from what was swept over some columns.
---   cross            the lines that are followed here can be followed
---   straight, turned line r + first modulo m, and the row of a diagonal in column u
---   added-but        a line but column u is swept over the columns before it and those after it
---   added-candidate, added-data, added-diagonals, added-rows   what the functions of those names add up to
+-- What adding lines over ranges of columns comes to: the lines of `but`, `dataBut` and `lineBut`.
+--   cross              a line from index 0 can be followed through some columns of a stripe
+--   straight, turned   the index of line r + first, and that of the row on which it meets column u
+--   added-but          a line but column u is the line over the columns before u and over those after it
+--   added-candidate    the data cells of the diagonals where a data column is left out, and
+--   added-data         where none is
+--   added-diagonals    with D's cells
+--   added-rows         the rows
 use mathlib.Core.Path.{_≡_, refl, sym, ap, ap₂, _∙_}
 use mathlib.Core.List.{List}
 use Prim.Native.Nat.{ℕ, _+_, _*_, _-_, _%_, _≤_, _<_}
@@ -27,10 +30,10 @@ cross {m} {b} {c} {k} {n} z few size e x y slant order inside within = record {
   columns = rw size (mul-le-mul-right c inside);
 }
 
-pub straight : (m n first r : ℕ) → first + n ≤ m → r < n → (r + first) % m ≡ first + r
+straight : (m n first r : ℕ) → first + n ≤ m → r < n → (r + first) % m ≡ first + r
 straight m n first r h l = let e : r + first ≡ first + r = omega arith in ap (λ (x : ℕ). x % m) e ∙ mod-eq-of-lt (omega arith)
 
-pub turned : (m first u r : ℕ) → (r + back m first u) % m ≡ back m (first + r) u
+turned : (m first u r : ℕ) → (r + back m first u) % m ≡ back m (first + r) u
 unfolding back
 turned m first u r = let e : r + (first + (m - u)) ≡ first + r + (m - u) = omega arith in add-mod-mod r (first + (m - u)) m ∙ ap (λ (x : ℕ). x % m) e
 

@@ -1,11 +1,11 @@
--- Laws of `TellsRows`: a number that is 0 exactly when some rows of bytes are.
---   rows-none, rows-next   of no rows, and of more rows after the first
+-- Bands: the first cells of a buffer, set to one cell, added to, and or-ed together; and laws of `TellsRows`.
+--   rows-none, rows-next   a number tells of no rows, and of more rows after the first
 --   rows-same, rows-count  of the same bytes, and of the same rows, by another name
---   band-some, band-room   a band has room for a row, and for as many as are taken
---   band-tells             the bytes of the first n cells of a buffer, or-ed together
+--   band-some, band-room   a band has room for one row at least, and for as many as are taken
 --   cell-copied            one more cell that was set to the cell x
 --   cell-then-grown        cells that were set to one cell, and then added to
 --   cleared-then-grown     a cell that was cleared, and then added to
+--   band-tells             what a band's bytes or-ed together tell of
 use mathlib.Core.Path.{_≡_, refl, sym, ap, _∙_, subst}
 use mathlib.Core.List.{List}
 use Prim.Native.Nat.{ℕ, _+_, _*_, _-_, _/_, _%_, _≤_, _<_}
@@ -56,10 +56,9 @@ pub cell-copied : (w u x y : List ℕ) (r : ℕ) → r * length x + length x ≤
 cell-copied w u x y r room e p =
     let n : ℕ = r * length x + length x - r * length x in
     let v : List ℕ = putMid (r * length x) n u y in
-    let q : Put u v (r * length x) n (λ l. getD x l 0) =
-    put-part u y (r * length x) n (λ l. getD x l 0) (omega arith) (ap length e ∙ omega arith) (λ l h. ap (λ (z : List ℕ). getD z l 0) e) in
     lined-more r (length x) 0 w u v (λ i l. getD x l 0) p
-    (subst (λ (at : ℕ). Put u v at (length x) (λ l. getD x l 0)) (omega arith) (put-count q (omega arith)))
+    (subst (λ (at : ℕ). Put u v at (length x) (λ l. getD x l 0)) (omega arith)
+    (put-count (put-part u y (r * length x) n (λ l. getD x l 0) (omega arith) (ap length e ∙ omega arith) (λ l h. ap (λ (z : List ℕ). getD z l 0) e)) (omega arith)))
 
 pub cell-then-grown : {n b : ℕ} (w u v x : List ℕ) (f : ℕ → ℕ → ℕ) → Lined n b 0 w u (λ r l. getD x l 0) → Grown n b 0 u v f → Lined n b 0 w v (λ r l. getD x l 0 ⊕ f r l)
 cell-then-grown w u v x f p q = record {

@@ -1,8 +1,9 @@
 -- The columns other than u fit a valid stripe exactly when no line of `lineBut` differs from line m - 1.
 --   but-data, but-H, but-D    what `lineBut` is for a data column, for column H and for column D
---   rest-data, rest-H, rest-D the differences are what the candidate's equations break by
---   fits-one                  for a column u
---   fits-none                 for a number that is no column's
+--   rest u i                  what line i differs by from line m - 1
+--   rest-data, rest-H, rest-D it is what the candidate's diagonal i, diagonal i and row i break by
+--   rest-holds, holds-rest    so in one lane no line differs exactly when the candidate's equations hold
+--   fits-one, fits-none       and in all lanes, with a column left out and with none
 use mathlib.Core.Path.{_≡_, sym, ap, ap₂, _∙_}
 use mathlib.Core.Logic.{_↔_}
 use mathlib.Core.Bool.{true}
@@ -56,8 +57,7 @@ module _ (m k : ℕ) (big : 1 < m) (few : k ≤ m) (a : Lane) where
   unfolding lineBut
   but-D d l = rw (lt-ltb k (k + 1) (omega arith)) (span-line m a 0 d (k + 1) ∙ sym (row-line m k few a d l))
 
-  -- what line i differs by from line m - 1
-  abbrev pub rest : ℕ → ℕ → ℕ
+  abbrev rest : ℕ → ℕ → ℕ
   rest u i = lineBut m k a u (m - 1) ⊕ lineBut m k a u i
 
   rest-data : (u i : ℕ) → u < k → i < m - 1 → rest u i ≡ amountD m k (candidate m k a u) i
@@ -81,7 +81,6 @@ module _ (m k : ℕ) (big : 1 < m) (few : k ≤ m) (a : Lane) where
   rest-D i l =
       ap₂ _⊕_ (but-D (m - 1) (omega arith) ∙ row-amount-last m k a (m - 1) (le-refl (m - 1))) (but-D i (omega arith) ∙ row-amount m k a i l) ∙ simp xor
 
-  -- in one lane
   rest-holds : (u : ℕ) → u < k + 2 → ((i : ℕ) → i < m - 1 → rest u i ≡ 0) → Holds m k (candidate m k a u)
   rest-holds u h e = by-order (Holds m k (candidate m k a u)) u k
       (λ low. amounts-hold m k (candidate m k a u) (candidate-H m k a few u low) (λ i l. sym (rest-data u i low l) ∙ e i l))
@@ -109,7 +108,8 @@ module _ (m k : ℕ) (big : 1 < m) (few : k ≤ m) (a : Lane) where
   holds-none u h = holds-same m k (candidate m k a u) a (λ i t _ l. candidate-other m k a u i t (λ e. absurd (omega arith)))
 
 module _ (m k b : ℕ) (big : 1 < m) (few : k ≤ m) (s : List ℕ) (u : ℕ) where
-  abbrev pub TellsBut : ℕ → ℕ → Type 0
+  -- o tells of the lines that leave column u out
+  abbrev TellsBut : ℕ → ℕ → Type 0
   TellsBut o u = TellsRows o (m - 1) b (λ i l. lineBut m k (lane m b s l) u (m - 1) ⊕ lineBut m k (lane m b s l) u i)
 
   pub fits-one : {o : ℕ} → u < k + 2 → TellsBut o u → (eqb o 0 ≡ true) ↔ FitsBut m k b u s

@@ -1,5 +1,6 @@
 -- Where the bytes of a stripe stand, and stripes made of lanes.
 --   place-lt, place-of      the place of a byte lies in the stripe, and each place in it is one of a byte
+--   byte-at, row-at         the byte at a place in a column, and its row
 --   stripe-ext              two stripes with the same bytes are one
 --   build m k b f           the stripe whose lane l is f l
 --   holds-byte              a lane's last eight bits obey the equations that the lane obeys
@@ -44,6 +45,15 @@ tab-each P z zero f h x = z
 tab-each P z (suc n) f h zero = h 0
 tab-each P z (suc n) f h (suc x) = tab-each P z n (λ i. f (suc i)) (λ i. h (suc i)) x
 
+module _ (m b : ℕ) where
+  pub byte-at : (s : List ℕ) (j t : ℕ) → byte m b s (j % b) (j / b) t ≡ getD s (t * columnLength m b + j) 0
+  unfolding byte
+  byte-at s j t = ap (λ y. getD s (t * columnLength m b + y) 0) (div-add-mod' j b)
+
+  pub row-at : 0 < b → (j : ℕ) → j < columnLength m b → j / b < m - 1
+  unfolding columnLength
+  row-at full j h = div-lt-iff-lt-mul {k = b} full .1 h
+
 module _ (m k b : ℕ) where
   pub place-lt : (l i t : ℕ) → l < b → i < m - 1 → t < k + 2 → t * columnLength m b + (i * b + l) < stripeLength m k b
   unfolding columnLength stripeLength
@@ -60,8 +70,7 @@ module _ (m k b : ℕ) where
     column-pos = mul-pos (omega arith) full
 
     row-lt : (x : ℕ) → x % columnLength m b / b < m - 1
-    unfolding columnLength
-    row-lt x = div-lt-iff-lt-mul {k = b} full .1 (mod-lt x column-pos)
+    row-lt x = row-at m b full (x % columnLength m b) (mod-lt x column-pos)
 
     column-lt : (x : ℕ) → x < stripeLength m k b → x / columnLength m b < k + 2
     unfolding stripeLength

@@ -1,5 +1,7 @@
 -- Laws of `count` and `some`.
 --   count-cong, some-cong   equal tests, equal answers
+--   count-most       at most n numbers below n pass
+--   count-under      a number that passes is counted with those below it
 --   none-pass        a count of zero: every number below n fails
 --   all-fail         and the other way round
 --   last-pass        the highest number below n that passes, and the count of those below it
@@ -7,7 +9,7 @@
 --   few-pass         all but one fail: at most one passes
 --   some-false, false-some   none passes, said number by number
 --   some-true        a number that passes
-use mathlib.Core.Path.{_≡_, refl, ap, ap₂, _∙_}
+use mathlib.Core.Path.{_≡_, refl, sym, ap, ap₂, _∙_}
 use mathlib.Core.Logic.{_≢_, _⊎_, inl, inr, by-cases}
 use mathlib.Core.Bool.{Bool, true, false, cond, _||_, false≢true}
 use Prim.Native.Nat.{ℕ, zero, suc, _≤_, _<_}
@@ -22,6 +24,26 @@ pub count-cong : (n : ℕ) {f g : ℕ → Bool} → ((t : ℕ) → t < n → f t
 unfolding count
 count-cong zero h = refl
 count-cong (suc n) h = ap₂ (λ b c. cond b (suc c) c) (h n (lt-suc-self n)) (count-cong n (λ t l. h t (le-step l)))
+
+pub count-most : (n : ℕ) (f : ℕ → Bool) → count n f ≤ n
+unfolding count
+count-most zero f = omega arith
+count-most (suc n) f = go (f n) (count-most n f)
+  where
+    go : (b : Bool) → count n f ≤ n → cond b (suc (count n f)) (count n f) ≤ suc n
+    go true h = omega arith
+    go false h = omega arith
+
+pub count-under : (n : ℕ) (f : ℕ → Bool) (t : ℕ) → f t ≡ true → t < n → count t f < count n f
+unfolding count
+count-under zero f t e l = absurd (not-suc-le-zero l)
+count-under (suc n) f t e l = go (f n) refl (count-under n f t e) (eq-or-lt-of-le (le-of-suc-le-suc l))
+  where
+    go : (b : Bool) → f n ≡ b → (t < n → count t f < count n f) → (t ≡ n) ⊎ (t < n) → count t f < cond b (suc (count n f)) (count n f)
+    go true p ih (inl q) = let x : count t f ≡ count n f = ap (λ i. count i f) q in omega arith
+    go true p ih (inr h) = let x = ih h in omega arith
+    go false p ih (inl q) = absurd (false≢true (sym p ∙ ap f (sym q) ∙ e))
+    go false p ih (inr h) = ih h
 
 pub none-pass : (n : ℕ) (f : ℕ → Bool) → count n f ≡ 0 → (t : ℕ) → t < n → f t ≡ false
 unfolding count

@@ -7,8 +7,6 @@ use native.Mathlib.Omega.{arith}
 use Rattle.fits.proofs.add_but.Statement.{statement}
 use Rattle.fits.proofs.add_but.Tie as tie
 
--- `fits::add_but` meets its contract: the columns before u are added, and then those after it.
-
 fill-lines-requires : tie.Need-fill-lines-requires
 fill-lines-requires c κs =
     let z = c .before .before .before in

@@ -7,8 +7,6 @@ use native.Mathlib.Omega.{arith}
 use Rattle.fits.proofs.add_candidate.Statement.{statement}
 use Rattle.fits.proofs.add_candidate.Tie as tie
 
--- `fits::add_candidate` meets its contract: the diagonal without column u, and the row of the cell that column u has on it.
-
 row-above-requires : tie.Need-row-above-requires
 row-above-requires c κs =
     let z = c .before .before in

@@ -6,8 +6,6 @@ use native.Mathlib.Omega.{arith}
 use Rattle.fits.proofs.add_data.Statement.{statement}
 use Rattle.fits.proofs.add_data.Tie as tie
 
--- `fits::add_data` meets its contract: where no data column is left out the diagonals are added as they are.
-
 add-candidate-requires : tie.Need-add-candidate-requires
 add-candidate-requires c κs =
     let z = c .before .before .before .before in

@@ -6,8 +6,6 @@ use native.Mathlib.Omega.{arith}
 use Rattle.fits.proofs.add_diagonals.Statement.{statement}
 use Rattle.fits.proofs.add_diagonals.Tie as tie
 
--- `fits::add_diagonals` meets its contract: the data cells, and then D's cell.
-
 add-data-requires : tie.Need-add-data-requires
 add-data-requires c κs = c .before .before .before .pre
 

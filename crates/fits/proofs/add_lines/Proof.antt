@@ -6,8 +6,6 @@ use native.Mathlib.Omega.{arith}
 use Rattle.fits.proofs.add_lines.Statement.{statement}
 use Rattle.fits.proofs.add_lines.Tie as tie
 
--- `fits::add_lines` meets its contract: past column H the lines are rows, which D is not on; else they are diagonals.
-
 add-fill-lines : tie.Need-add-fill-lines
 add-fill-lines c =
     let z = c .before .before .before .before in

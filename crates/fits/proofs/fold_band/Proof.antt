@@ -1,5 +1,6 @@
 -- `fits::fold_band` meets its contract: the band's cells are the sum, then each gets its line, and what they hold is or-ed together.
 use Prim.Native.Nat.{ℕ, _+_}
+use native.Mathlib.Nat.{mul-le-mul}
 use lib.ListN.{getD}
 use denote.Ref.{now}
 use Rattle.parity.specs.Xor.{_⊕_}
@@ -34,7 +35,7 @@ part-any-start c = search needs
 part-any-end : tie.Need-part-any-end
 part-any-end c =
     let z = c .before .before .before .before .before .before .before .before .before .before .before .before in
-    omega (arith, z .pre .1, c .before .before .before .before .before .before .before .repeat .ensures .size, c .before .before .before .add-lines .ensures .size)
+    omega (arith, z .pre .1, mul-le-mul (z .pre .3) (z .pre .6 .filled), c .before .before .before .before .before .before .before .repeat .ensures .size, c .before .before .before .add-lines .ensures .size)
 
 any-requires : tie.Need-any-requires
 any-requires c κs = search needs

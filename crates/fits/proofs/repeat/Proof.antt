@@ -11,8 +11,6 @@ use native.Mathlib.Omega.{arith}
 use Rattle.fits.proofs.repeat.Statement.{statement}
 use Rattle.fits.proofs.repeat.Tie as tie
 
--- `fits::repeat` meets its contract. The invariant: the cells before r are x.
-
 abbrev Inv-loop : tie.InvT-loop
 Inv-loop w₀ x n b r₀ w r = (r ≤ n) × Lined r (length x) 0 w₀ w (λ i l. getD x l 0)
 

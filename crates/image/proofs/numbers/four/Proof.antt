@@ -1,0 +1,27 @@
+-- `image::numbers::four` meets its contract: both halves are below 65,536.
+use Rattle.image.specs.Entries.{number4}
+use borrow.Author.Needs.{needs}
+use Rattle.image.proofs.numbers.four.Statement.{statement}
+use Rattle.image.proofs.numbers.four.Tie as tie
+
+two-requires : tie.Need-two-requires
+two-requires c κs = search needs
+
+add-two : tie.Need-add-two
+add-two c = search needs
+
+two-requires-2 : tie.Need-two-requires-2
+two-requires-2 c κs = search needs
+
+mul-result : tie.Need-mul-result
+mul-result c = search needs
+
+add-result : tie.Need-add-result
+add-result c = search needs
+
+returns : tie.Need-returns
+unfolding number4
+returns c = search needs
+
+pub four-spec : {M : Type 1} → statement M
+four-spec = tie.close (tie.spec two-requires add-two two-requires-2 mul-result add-result returns)
