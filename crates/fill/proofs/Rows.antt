@@ -4,8 +4,11 @@
 --   Grown n b at w v f        v is w with f r l added at lane l of cell r, of the n cells from `at` on
 --   grown-more                one row more that was added to
 --   grown-none, grown-both    nothing added, and one thing added after another
+--   lined-grown               cells that were set, and then added to
 --   grown-same                the same added, by another name
 --   both-none, both-both      the same in two columns
+--   first-at, second-at       where the bytes of a buffer of two columns stand
+--   column-end, row-room      the first column ends before what stands in the second, and a byte of a row stands within its column
 --   both-grown                two columns, of which the first was added to, and then the second
 use mathlib.Core.Path.{_≡_, refl, sym, ap, _∙_, subst}
 use mathlib.Core.List.{List}
@@ -69,6 +72,14 @@ module _ (n b at : ℕ) where
   pub grown-same : (w v : List ℕ) (f g : ℕ → ℕ → ℕ) → Grown n b at w v f → ((r l : ℕ) → r < n → l < b → f r l ≡ g r l) → Grown n b at w v g
   grown-same w v f g p so = lined-same p (λ r l h k. ap (λ (x : ℕ). getD w (at + (r * b + l)) 0 ⊕ x) (so r l h k))
 
+  pub lined-grown : {w u v : List ℕ} {f : ℕ → ℕ → ℕ} (g : ℕ → ℕ → ℕ) → Lined n b at w u f → Grown n b at u v g → Lined n b at w v (λ r l. f r l ⊕ g r l)
+  lined-grown g p q = record {
+    size = q .size ∙ p .size;
+    inside = λ r l k j. q .inside r l k j ∙ ap (λ (x : ℕ). x ⊕ g r l) (p .inside r l k j);
+    before = λ x k. q .before x k ∙ p .before x k;
+    after = λ x k. q .after x k ∙ p .after x k;
+  }
+
   pub grown-both : (w u v : List ℕ) (f g h : ℕ → ℕ → ℕ) → Grown n b at w u f → Grown n b at u v g → ((r l : ℕ) → f r l ⊕ g r l ≡ h r l) → Grown n b at w v h
   grown-both w u v f g h p q so = record {
     size = q .size ∙ p .size;
@@ -96,19 +107,19 @@ module _ (m b : ℕ) where
   }
 
   -- the bytes of a buffer of two columns
-  first-at : (w : List ℕ) (r l : ℕ) → lane m b w l r 0 ≡ getD w (0 + (r * b + l)) 0
+  pub first-at : (w : List ℕ) (r l : ℕ) → lane m b w l r 0 ≡ getD w (0 + (r * b + l)) 0
   unfolding byte
   first-at w r l = let e : 0 * columnLength m b + (r * b + l) ≡ 0 + (r * b + l) = omega arith in ap (λ (x : ℕ). getD w x 0) e
 
-  second-at : (c : ℕ) (w : List ℕ) (r l : ℕ) → c ≡ columnLength m b → lane m b w l r 1 ≡ getD w (c + (r * b + l)) 0
+  pub second-at : (c : ℕ) (w : List ℕ) (r l : ℕ) → c ≡ columnLength m b → lane m b w l r 1 ≡ getD w (c + (r * b + l)) 0
   unfolding byte
   second-at c w r l h = let e : 1 * columnLength m b + (r * b + l) ≡ c + (r * b + l) = omega arith in ap (λ (x : ℕ). getD w x 0) e
 
-  column-end : (c x : ℕ) → c ≡ columnLength m b → 0 + (m - 1) * b ≤ c + x
+  pub column-end : (c x : ℕ) → c ≡ columnLength m b → 0 + (m - 1) * b ≤ c + x
   unfolding columnLength
   column-end c x e = omega arith
 
-  row-room : (r l : ℕ) → r < m - 1 → l < b → r * b + l < columnLength m b
+  pub row-room : (r l : ℕ) → r < m - 1 → l < b → r * b + l < columnLength m b
   unfolding columnLength
   row-room r l h k = omega (arith, parts-end b h)
 

@@ -1,4 +1,5 @@
 -- Numbers that stand in an image, in two bytes or in four.
+--   Bytes image                 every number in the list is below 256
 --   short-told, short-stands    a number below 65,536 that stands there is told there, and the other way round
 --   entry-told, entry-stands    the same of an entry of the contents
 use mathlib.Core.Path.{_≡_, sym, ap, _∙_}
@@ -44,7 +45,7 @@ entry-told image t p o small fits s =
       begins = four-told image (entryAt t + 4) o fits (rw e at (stands-second (p ∷ 0 ∷ []) (le4 o) (stands-second (le2 t) _ s)));
     }
 
-module _ (image : List ℕ) (bytes : (x : ℕ) → getD image x 0 < 256) where
+module _ (image : List ℕ) (bytes : Bytes image) where
   two-stands : (a n : ℕ) → number2 image a ≡ n % 65536 → Stands image a (le2 n)
   unfolding number2
   two-stands a n e = record { at = at }

@@ -25,7 +25,7 @@ use Rattle.image.specs.Reads.{number2}
 use Rattle.image.specs.Entries.{entryAt, saysPresent, offsetAt, Entry, bodyAt, RightEntries, Bodies}
 use Rattle.image.proofs.Standing.{Stands}
 use Rattle.image.proofs.Laid.{Laid, body-length, body-byte, image-laid, laid-image}
-use Rattle.image.proofs.Digits.{short-told, short-stands, entry-told, entry-stands}
+use Rattle.image.proofs.Digits.{Bytes, short-told, short-stands, entry-told, entry-stands}
 
 pub record Right (m k b : ℕ) (image : List ℕ) : Type 0 where
   pub first : number2 image 0 ≡ m
@@ -109,7 +109,7 @@ module _ {m k b : ℕ} (shape : Shape m k b) where
           ends = λ t h e. rw (formed-offset w t h e) (let x = parts-end (columnLength m b) (count-under (k + 2) (present map) t e h) in omega arith);
         }
 
-  module _ (image : List ℕ) (bytes : (x : ℕ) → getD image x 0 < 256) where
+  module _ (image : List ℕ) (bytes : Bytes image) where
     -- the stripe whose columns are the bodies, and anything where a column is absent
     found : List ℕ
     found = build m k b (λ l i t. getD image (bodyAt image (bodiesAt k) (columnLength m b) t + (i * b + l)) 0)

@@ -1,7 +1,6 @@
 -- An image, piece by piece.
---   entry-at, body-at      how many bytes the pieces before entry t, and before the body of column t, have
+--   Laid                      what stands where in an image, and its length
 --   body-length, body-byte    the bytes of a body
---   Laid                   what stands where in an image, and its length
 --   image-laid, laid-image    an image is laid out so, and what is laid out so is the image
 use mathlib.Core.Path.{_≡_, refl, sym, ap, _∙_}
 use mathlib.Core.Bool.{Bool, true, false, cond}
@@ -49,6 +48,7 @@ body-byte m b map s t e j l =
     rw e (getD-take (columnLength m b) (drop (t * columnLength m b) s) j 0 l ∙ getD-drop (t * columnLength m b) s j 0)
 
 module _ (m k b : ℕ) (map : List Bool) (s : List ℕ) (whole : length s ≡ stripeLength m k b) where
+  -- how many bytes stand before entry t of the contents, and before the body of column t
   entry-at : (t : ℕ) → length (joined t (entry m k b map)) ≡ 8 * t
   unfolding entry
   entry-at t = joined-length (λ t. 8 * t) (entry m k b map) refl t (λ t l. omega arith)
@@ -67,7 +67,7 @@ module _ (m k b : ℕ) (map : List Bool) (s : List ℕ) (whole : length s ≡ st
       joined-length (λ t. presentBelow t map * columnLength m b) (body m b map s) (bodies-none map (columnLength m b)) t (λ t l.
       bodies-more map (columnLength m b) t ∙ ap (λ x. presentBelow t map * columnLength m b + x) (sym (body-length t (omega arith))))
 
-  pub image-length : length (imageOf m k b map s) ≡ bodiesAt k + presentBelow (k + 2) map * columnLength m b
+  image-length : length (imageOf m k b map s) ≡ bodiesAt k + presentBelow (k + 2) map * columnLength m b
   unfolding imageOf
   image-length =
       let x = entry-at (k + 2) in

@@ -11,7 +11,7 @@ use mathlib.Core.Bool.{Bool, true, false}
 use mathlib.Core.List.{List, _++_}
 use Prim.Native.Nat.{ℕ, _+_, _≤_, _<_}
 use native.Mathlib.Omega.{arith}
-use lib.ListN.{length, getD}
+use lib.ListN.{length}
 use Rattle.parity.specs.Shape.{Shape, columnLength}
 use Rattle.evenodd.specs.declared.shapes.Judged.{Judged}
 use Rattle.evenodd.specs.declared.shapes.Judged.the-variants as judged
@@ -28,6 +28,7 @@ use Rattle.image.specs.declared.table.Table.{Table}
 use Rattle.image.specs.Format.{bodiesAt, WellFormed}
 use Rattle.image.specs.Reads.{number2, IllFormed, formRules, contentsRules, ContentsOf}
 use Rattle.image.specs.Entries.{bodyAt, Walked}
+use Rattle.image.proofs.Digits.{Bytes}
 use Rattle.image.proofs.Formed.{formed-right, right-formed}
 
 pub record Header (image : List ℕ) (m k b : ℕ) : Type 0 where
@@ -76,7 +77,7 @@ module _ {image : List ℕ} {m k b : ℕ} (h : Header image m k b) where
       pub ill-length : w .right ≡ true → w .next ≢ length image → IllFormed m k b image
       ill-length e n map f = n (walked .right e .next ∙ rw q (sym (formed-right shape map image f .size)))
 
-      pub contents-good : ((x : ℕ) → getD image x 0 < 256) → w .right ≡ true → w .next ≡ length image
+      pub contents-good : Bytes image → w .right ≡ true → w .next ≡ length image
           → ContentsOf image (record { answer = read.Shape m k b; map = w .map })
       contents-good bytes e n =
           let r = walked .right e in

@@ -1,8 +1,10 @@
 -- Lines of a lane whose equations hold, and lines with a column left out.
 --   line-more         a line over one column more
 --   line-but          a line without column u: what is left of it is the line plus its cell in column u
+--   real-same         a cell of a column, and one of another column that is the same
 --   span-agree        a span depends on the bytes of its own columns alone
 --   line-but-same     a line without column u depends on the bytes of the other columns alone
+--   back-row          a row stays a row
 --   row-is, row-none  a row over the data columns is H's cell, and over these and H it is zero
 --   diagonal-is       a diagonal over the data columns is S plus D's cell; of diagonal m - 1 D's cell is imaginary
 use mathlib.Core.Path.{_≡_, sym, ap, ap₂, _∙_, subst}
@@ -38,10 +40,10 @@ module _ (m : ℕ) (a : Lane) where
 
 -- ---- two lanes that have the same bytes in some columns
 
-pub real-same : (m : ℕ) (a b : Lane) (r t : ℕ) → (r < m - 1 → a r t ≡ b r t) → real m a r t ≡ real m b r t
-real-same m a b r t same = by-order (real m a r t ≡ real m b r t) r (m - 1)
-    (λ h. real-in m a r t h ∙ same h ∙ sym (real-in m b r t h))
-    (λ h. real-out m a r t h ∙ sym (real-out m b r t h))
+pub real-same : (m : ℕ) (a b : Lane) (r : ℕ) {t t′ : ℕ} → (r < m - 1 → a r t ≡ b r t′) → real m a r t ≡ real m b r t′
+real-same m a b r {t} {t′} same = by-order (real m a r t ≡ real m b r t′) r (m - 1)
+    (λ h. real-in m a r t h ∙ same h ∙ sym (real-in m b r t′ h))
+    (λ h. real-out m a r t h ∙ sym (real-out m b r t′ h))
 
 pub span-agree : (m : ℕ) (a b : Lane) (e i x y : ℕ) → x ≤ y → ((r t : ℕ) → r < m - 1 → x ≤ t → t < y → a r t ≡ b r t) → span m a e i x y ≡ span m b e i x y
 span-agree m a b e i x y order same =
@@ -51,7 +53,7 @@ span-agree m a b e i x y order same =
     step n hx ih hy =
         subst (λ (z : ℕ). span m a e i x z ≡ span m b e i x z) (add-one n)
         (sym (span-more m a e i x n)
-        ∙ ap₂ _⊕_ (ih (omega arith)) (real-same m a b (back m i (e * n)) n (λ h. same (back m i (e * n)) n h hx (omega arith)))
+        ∙ ap₂ _⊕_ (ih (omega arith)) (real-same m a b (back m i (e * n)) (λ h. same (back m i (e * n)) n h hx (omega arith)))
         ∙ span-more m b e i x n)
 
 -- s has what a has in every column below n but u
@@ -65,7 +67,6 @@ line-but-same m s a e i u n h same =
 
 -- ---- where the equations hold
 
--- a row stays a row
 pub back-row : (m i t : ℕ) → i < m → back m i (0 * t) ≡ i
 back-row m i t h = ap (back m i) (zero-mul t) ∙ back-none m i h
 

@@ -1,14 +1,14 @@
 -- Which columns of two stripes differ, and which columns are absent.
 --   same-column, column-same   columns that do not differ have the same bytes, and the other way round
---   same-places, places-same   the same, place by place
+--   places-same                columns with the same bytes, place by place, do not differ
 --   Cover, cover               with at most two columns absent: two columns, of which no other is absent. Where fewer are absent, H or D fills up.
 --   agrees-same                present columns that agree have the same bytes
-use mathlib.Core.Path.{_≡_, refl, sym, ap, _∙_}
+use mathlib.Core.Path.{_≡_, refl, sym, ap}
 use mathlib.Core.Logic.{_≢_, inl, inr}
 use mathlib.Core.Bool.{Bool, true, false, not}
 use mathlib.Core.List.{List}
-use Prim.Native.Nat.{ℕ, _+_, _-_, _*_, _/_, _%_, _≤_, _<_}
-use native.Mathlib.Nat.{eq-or-lt-of-le, mod-lt}
+use Prim.Native.Nat.{ℕ, _+_, _-_, _*_, _≤_, _<_}
+use native.Mathlib.Nat.{eq-or-lt-of-le}
 use native.Mathlib.Decide.{decLt}
 use native.Mathlib.Omega.{arith}
 use lib.Arith.{digits-lt}
@@ -18,7 +18,6 @@ use Rattle.parity.specs.Sum.{count}
 use Rattle.parity.specs.Shape.{columnLength}
 use Rattle.parity.specs.Stripe.{byte}
 use Rattle.parity.specs.Presence.{differs}
-use Rattle.parity.proofs.Bytes.{byte-at, row-at}
 use Rattle.parity.proofs.Count.{none-pass, Last, last-pass, some-false, false-some}
 
 pub not-false : (b : Bool) → not b ≡ false → b ≡ true
@@ -34,13 +33,10 @@ pub column-same : (m b : ℕ) (s v : List ℕ) (t : ℕ) → ((l i : ℕ) → l 
 unfolding differs
 column-same m b s v t h = false-some (m - 1) _ (λ i hi. false-some b _ (λ l hl. ap not (eq-eqb _ _ (h l i hl hi))))
 
-module _ (m b : ℕ) (s v : List ℕ) (t : ℕ) where
-  pub same-places : 0 < b → differs m b s v t ≡ false → (j : ℕ) → j < columnLength m b → getD s (t * columnLength m b + j) 0 ≡ getD v (t * columnLength m b + j) 0
-  same-places full e j h = sym (byte-at m b s j t) ∙ same-column m b s v t e (j % b) (j / b) (mod-lt j full) (row-at m b full j h) ∙ byte-at m b v j t
-
-  pub places-same : ((j : ℕ) → j < columnLength m b → getD s (t * columnLength m b + j) 0 ≡ getD v (t * columnLength m b + j) 0) → differs m b s v t ≡ false
-  unfolding byte columnLength
-  places-same h = column-same m b s v t (λ l i hl hi. h (i * b + l) (digits-lt hi hl))
+pub places-same : (m b : ℕ) (s v : List ℕ) (t : ℕ)
+    → ((j : ℕ) → j < columnLength m b → getD s (t * columnLength m b + j) 0 ≡ getD v (t * columnLength m b + j) 0) → differs m b s v t ≡ false
+unfolding byte columnLength
+places-same m b s v t h = column-same m b s v t (λ l i hl hi. h (i * b + l) (digits-lt hi hl))
 
 pub other-way : (x y : ℕ) → x ≢ y → (x < y → ⊥) → y < x
 other-way x y ne l = elim (decLt y x) [ yes h ↦ h | no h ↦ absurd (ne (omega arith)) ]

@@ -15,6 +15,7 @@ pub mod Stripes
 pub mod Theorems
 pub mod Table
 pub mod Candidate
+pub mod Diagonals
 pub mod Test
 pub mod Numbers
 pub mod Fits

@@ -10,7 +10,7 @@ ghost use Rattle.lines.specs.Lines.{real, Sized};
 ghost use Rattle.walk.specs.Walk.{Reaches, Turned, Walked};
 
 // Adds row `from` of the first half to row `to` of the second. Row m - 1 is imaginary, and zero.
-fn add_row(w: &mut [u8], g: Grid, from: usize, to: usize)
+pub fn add_row(w: &mut [u8], g: Grid, from: usize, to: usize)
     requires { ⌜ (length (now w) ≡ 2 * g .column) × Sized (g .m) (g .b) (g .column) × (to < g .m - 1) ⌝ }
     ensures { λ _. ⌜ Put (now (w .entry)) (now (w .exit)) (g .column + to * g .b) (g .b) (λ l. lane (g .m) (g .b) (now (w .entry)) l to 1 ⊕ real (g .m) (lane (g .m) (g .b) (now (w .entry)) l) from 0) ⌝ }
 {

@@ -1,0 +1,4 @@
+pub mod Rooms
+pub mod Bench
+pub mod Lanes
+pub mod Steps

@@ -1,0 +1,43 @@
+-- `columns::set_diagonals` meets its contract: the diagonals, and then D's cells added to them.
+use Prim.Native.Nat.{_+_}
+use denote.Ref.{now}
+use Rattle.fill.proofs.Rows.{lined-grown}
+use Rattle.fill.proofs.Sweeps.{lineAt}
+use borrow.Author.Needs.{needs}
+use Rattle.columns.proofs.set_diagonals.Statement.{statement}
+use Rattle.columns.proofs.set_diagonals.Tie as tie
+
+add-set-lines : tie.Need-add-set-lines
+add-set-lines c = search needs
+
+set-lines-requires : tie.Need-set-lines-requires
+set-lines-requires c κs = search needs
+
+add-fill-rows : tie.Need-add-fill-rows
+add-fill-rows c = search needs
+
+add-fill-rows-2 : tie.Need-add-fill-rows-2
+add-fill-rows-2 c = search needs
+
+fill-rows-requires : tie.Need-fill-rows-requires
+fill-rows-requires c κs = search needs
+
+same-length : tie.Need-same-length
+same-length c = search needs
+
+returns : tie.Need-returns
+returns c =
+    let a = c .before .before .before .before .before .before .before .before .before .before .before .args in
+    lined-grown (a .rows) (a .g .b) (a .at) (lineAt (a .g .m) (a .g .b) (now (a .s)) 0 (a .shift) (a .k + 1) (a .k + 2)) (c .before .before .before .before .before .before .set-lines .ensures) (c .before .before .fill-rows .ensures)
+
+pub set-diagonals-spec : {M : Type 1} → statement M
+set-diagonals-spec =
+    tie.close
+    (tie.spec
+    add-set-lines
+    set-lines-requires
+    add-fill-rows
+    add-fill-rows-2
+    fill-rows-requires
+    same-length
+    returns)
