@@ -2,27 +2,42 @@
 --   restored-none     none absent: the columns fit, and nothing is written
 --   restored-one      one absent: the others fit
 --   restored-two      two absent: exactly one valid stripe agrees
+--   gapped-…          what the loops below ask for
 --   contradicted      the columns other than the absent one, if there is one, don't fit: no valid stripe agrees
 use mathlib.Core.Path.{_≡_, refl, sym, ap, _∙_}
 use mathlib.Core.Logic.{_≢_, by-cases}
 use mathlib.Core.Bool.{Bool, true, cond, true≢false}
 use mathlib.Core.List.{List}
-use Prim.Native.Nat.{ℕ, _+_, _-_, _≤_, _<_}
+use Prim.Native.Nat.{ℕ, _+_, _-_, _*_, _≤_, _<_}
 use native.Mathlib.Decide.{decLt}
 use native.Mathlib.Omega.{arith}
 use lib.Dec.{ltb}
 use lib.ListN.{length}
-use Rattle.parity.specs.Shape.{Shape}
+use Rattle.parity.specs.Shape.{Shape, stripeLength, benchLength}
 use Rattle.parity.specs.Stripe.{byte, Stripe, Valid}
-use Rattle.parity.specs.Presence.{present, Agrees}
+use Rattle.parity.specs.Presence.{present, absences, Agrees}
 use Rattle.parity.specs.Candidate.{FitsBut}
 use Rattle.parity.specs.Theorems.{ExactlyOne}
 use Rattle.parity.proofs.Columns.{same-column, column-same}
 use Rattle.parity.proofs.Fits.{rewritten, rewritten-other, fits-valid, valid-fits}
 use Rattle.parity.proofs.Theorems.{exactly-one}
-use Rattle.evenodd.specs.Maps.{NthAbsent, absentBelow}
-use Rattle.evenodd.specs.Restores.{Benched, RestoredFrom}
-use Rattle.evenodd.proofs.Presence.{absences-below, others-present}
+use Rattle.lines.specs.declared.Grid.{Grid}
+use Rattle.walk.specs.Walk.{Reaches}
+use Rattle.walk.proofs.Callers.{reaches}
+use Rattle.columns.specs.Columns.{Ready}
+use Rattle.evenodd.specs.declared.maps.Gaps.{Gaps}
+use Rattle.evenodd.specs.declared.maps.Map.{Map}
+use Rattle.evenodd.specs.declared.restoring.Restored.{Restored}
+use Rattle.evenodd.specs.declared.restoring.Restored.the-variants.{Columns, Refused}
+use Rattle.evenodd.specs.declared.shapes.Refusal.the-variants.{Contradicted}
+use Rattle.evenodd.specs.Refusals.{pass, refuse}
+use Rattle.evenodd.specs.Gapped.{Gapped, Filled}
+use Rattle.evenodd.specs.Maps.{Stray, NthAbsent, absentBelow}
+use Rattle.evenodd.specs.Restores.{benchRules, Benched, RestoredFrom, Restores}
+use Rattle.evenodd.proofs.Rules.{gives-first, gives-next}
+use Rattle.evenodd.proofs.Shape.{after-shape}
+use Rattle.evenodd.proofs.Presence.{absences-below, below-under, others-present}
+use Rattle.evenodd.proofs.Stripe.{sized}
 
 module _ (m k b : ℕ) (h : Shape m k b) (map : List Bool) (s : List ℕ) (st : Stripe m k b s) (n first second : ℕ)
     (counted : n ≡ absentBelow (k + 2) map) (lowest : NthAbsent (k + 2) 0 map first) (other : NthAbsent (k + 2) 1 map second) where
@@ -101,3 +116,50 @@ module _ (m k b : ℕ) (h : Shape m k b) (map : List Bool) (s : List ℕ) (st : 
           half1 = λ l i hl hi. halves l i hl hi .1 ∙ sym (ap (λ (q : ℕ). cond (ltb 1 q) (byte m b v l i second) (byte m b before l i 1)) e);
         };
       }
+
+-- ---- what the loops below ask for
+
+module _ {g : Grid} {k : ℕ} {map : List Bool} {gaps : Gaps} {s bench : List ℕ} (p : Gapped g k map gaps s bench) where
+  pub gapped-length : length s ≡ (k + 2) * g .column
+  unfolding stripeLength
+  gapped-length = p .stripe ∙ sym (ap (λ (n : ℕ). (k + 2) * n) (p .column))
+
+  pub gapped-ready : Ready (g .m) k (g .b) (g .column) (length s) (length bench)
+  unfolding benchLength
+  gapped-ready = record {
+    sized = sized (p .shape) (p .column);
+    some = p .shape .real;
+    few = p .shape .few;
+    stripe = gapped-length;
+    bench = p .held ∙ sym (ap (λ (n : ℕ). 2 * n) (p .column));
+  }
+
+  -- two absent columns, the lower one first
+  pub gapped-order : gaps .count ≡ 2 → (gaps .first < gaps .second) × (gaps .second < k + 2)
+  gapped-order e =
+      let low = p .counts .first .found (omega (arith, p .counts .count)) in
+      let high = p .counts .second .found (omega (arith, p .counts .count)) in
+      let order : gaps .first < gaps .second = by-cases (decLt (gaps .first) (gaps .second)) (λ l. l) (λ n.
+      by-cases (decLt (gaps .second) (gaps .first))
+      (λ l. absurd (let z = below-under map (gaps .second) (gaps .first) (high .1) l in omega (arith, low .2, high .2)))
+      (λ q. absurd (let z : gaps .first ≡ gaps .second = omega arith in let y = ap (λ t. absentBelow t map) z in omega (arith, low .2, high .2)))) in
+      (order, high .0)
+
+  pub gapped-reaches : gaps .count ≡ 2 → gaps .second < k → Reaches (g .m) (gaps .second - gaps .first)
+  gapped-reaches e l =
+      let (order, _) = gapped-order e in
+      reaches (p .shape .value .prime) (omega arith) (omega (arith, p .shape .few))
+
+-- what restore_gaps says is what restore's last rule and its answer ask for
+pub restore-answer : (m k b : ℕ) (map : Map) (s before after : List ℕ) → Shape m k b → length s ≡ stripeLength m k b → length before ≡ benchLength m b
+    → (Stray k (map .places) → ⊥) → absences k (map .places) ≤ 2 → (r : Restored) → Filled m k b (map .places) s before after r → Restores m k b map s before after r
+restore-answer m k b map s before after h stripe held clear few (Columns n first second) f = record {
+  told = after-shape m k b (benchRules m k b map s before) pass h
+      (gives-next (λ c. c stripe) (gives-next (λ c. c held) (gives-next clear (gives-next (λ c. omega arith) (gives-next (λ c. c (f .stripe) (f .valid) (f .agrees)) refl)))));
+  left = f;
+}
+restore-answer m k b map s before after h stripe held clear few (Refused r) f = record {
+  told = rw (f .0) (after-shape m k b (benchRules m k b map s before) (refuse Contradicted) h
+      (gives-next (λ c. c stripe) (gives-next (λ c. c held) (gives-next clear (gives-next (λ c. omega arith) (gives-first (f .1)))))));
+  left = f .2;
+}

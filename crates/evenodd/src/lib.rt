@@ -17,6 +17,7 @@ pub use maps::Map;
 pub use maps::Marked;
 pub use mending::Mended;
 pub use restoring::Restored;
+pub use restoring::restore;
 pub use shapes::Judged;
 pub use shapes::Refusal;
 pub use shapes::judge;
