@@ -1,11 +1,14 @@
 -- Laws of `Put` and `Added`.
 --   put-none, put-one   nothing put, and one byte more
 --   put-kept            bytes that were so before
+--   put-start           a byte of a run that was set from its start
 --   put-next            a second run after the first, which may overlap it
 --   put-same, put-count the same bytes by another name, and so many by another name
 --   put-part, put-added a lent part that came back with other bytes, or with something added
 --   put-copied          a lent part that came back as a run which was set before
 --   put-taken           a lent part that came back as a part of another list
+--   put-lent            one byte more, which was lent
+--   put-again           a run that was set, and then set again to what it held with something added
 --   put-all             the whole run became another one
 --   put-then-added      a run that was set, and then added to
 --   added-put           a run added to from its start
@@ -38,6 +41,9 @@ put-one s t at l v f room e p = record {
   before = λ x h. getD-set-other t (at + l) x v 0 (λ q. absurd (omega arith)) ∙ p .before x h;
   after = λ x h. getD-set-other t (at + l) x v 0 (λ q. absurd (omega arith)) ∙ p .after x (omega arith);
 }
+
+pub put-start : {s t : List ℕ} {n : ℕ} {f : ℕ → ℕ} → Put s t 0 n f → (l : ℕ) → l < n → getD t l 0 ≡ f l
+put-start {t = t} p l h = let e : l ≡ 0 + l = omega arith in ap (λ (v : ℕ). getD t v 0) e ∙ p .inside l h
 
 pub put-next : (s t u : List ℕ) (at j x n : ℕ) (f g : ℕ → ℕ) → x ≤ j → j ≤ x + n → Put s t at j f → Put t u (at + x) n (λ l. g (x + l))
     → ((l : ℕ) → x ≤ l → l < x + n → g l ≡ f l) → Put s u at (x + n) f
@@ -126,3 +132,21 @@ put-copied w x y z at n f room e p so =
     put-count (put-part w z at n f (omega arith) (ap length so ∙ p .size ∙ sym e) (λ l h.
     let q : l ≡ 0 + l = omega arith in
     ap (λ (v : List ℕ). getD v l 0) so ∙ ap (λ (v : ℕ). getD y v 0) q ∙ p .inside l (omega arith))) e
+
+-- one byte more, which was lent
+pub put-lent : (s t y : List ℕ) (j n : ℕ) (f : ℕ → ℕ) → j < length t → n ≡ 1 → length y ≡ 1 → getD y 0 0 ≡ f j → Put s t 0 j f → Put s (putMid j n t y) 0 (j + 1) f
+put-lent s t y j n f room e size so p =
+    put-next s t (putMid j n t y) 0 j j 1 f f (omega arith) (omega arith) p (subst (λ (x : ℕ). Put t (putMid j n t y) x 1 (λ l. f (j + l))) (omega arith)
+    (put-count (put-part t y j n (λ l. f (j + l)) (omega arith) (size ∙ sym e) (λ l h.
+    let z : l ≡ 0 = omega arith in
+    let q : j ≡ j + l = omega arith in
+    ap (λ (x : ℕ). getD y x 0) z ∙ so ∙ ap f q)) e)) (λ l _ _. refl)
+
+-- a run that was set, and then set again to what it held with something added
+pub put-again : {x y z : List ℕ} {at n : ℕ} {f : ℕ → ℕ} (g : ℕ → ℕ) → Put x y at n f → Put y z at n (λ l. getD y (at + l) 0 ⊕ g l) → Put x z at n (λ l. f l ⊕ g l)
+put-again g p q = record {
+  size = q .size ∙ p .size;
+  inside = λ l h. q .inside l h ∙ ap (λ (v : ℕ). v ⊕ g l) (p .inside l h);
+  before = λ v h. q .before v h ∙ p .before v h;
+  after = λ v h. q .after v h ∙ p .after v h;
+}

@@ -5,8 +5,8 @@ ghost use Prim.Native.Nat.{ℕ, _+_, _*_, _≤_, _<_};
 ghost use lib.ListN.{length, getD};
 ghost use Rattle.parity.specs.Stripe.{lane, brokenRows, brokenDiagonals};
 ghost use Rattle.cells.specs.Runs.{Tells};
-ghost use Rattle.lines.specs.Lines.{Sized, Crosses};
-ghost use Rattle.counts.specs.Counts.{rest, breaking};
+ghost use Rattle.lines.specs.Lines.{rest, Sized, Crosses};
+ghost use Rattle.counts.specs.Counts.{breaking};
 
 pub struct Counts {
     pub rows: usize,

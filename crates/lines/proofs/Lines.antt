@@ -4,6 +4,7 @@
 --   real-in, real-out        rows below m - 1 are the lane's, the others zero
 --   cell-read                the lanes of a cell, read from a part of the column, which is a part of the stripe
 --   span-none, span-more, span-join, span-line   a span of no columns, of one column more, of the columns of two, and from column 0 on
+--   line-but                 a line is what is left of it without column u, and the byte in column u
 --   column-is, column-most, cell-room   a cell lies within its column, and a column is not long
 --   crosses-line, crosses-columns      another line, and fewer columns, can be followed too
 --   slant-in, slant-next, row-next     what a slant adds up to, column by column
@@ -79,6 +80,10 @@ module _ (m : ℕ) (a : Lane) where
   pub span-join : (e i x y z : ℕ) → span m a e i x y ⊕ span m a e i y z ≡ span m a e i x z
   unfolding span
   span-join e i x y z = ⊕-assoc (line m a e i x) (line m a e i y) _ ∙ ap (λ (n : ℕ). line m a e i x ⊕ n) (⊕-cancel (line m a e i y) (line m a e i z))
+
+  -- without column u
+  pub line-but : (e i u n : ℕ) → line m a e i n ≡ span m a e i 0 u ⊕ real m a (back m i (e * u)) u ⊕ span m a e i (u + 1) n
+  line-but e i u n = sym (ap (λ (x : ℕ). x ⊕ span m a e i (u + 1) n) (span-more e i 0 u) ∙ span-join e i 0 (u + 1) n ∙ span-line e i n)
 
 pub cell-read : (s : List ℕ) (m b c t r j n : ℕ) → c ≡ columnLength m b → r < m - 1 → r * b + j + n ≤ c → (l : ℕ) → l < n
     → getD (part (part s (t * c) (t * c + c)) (r * b + j) (r * b + j + n)) l 0 ≡ real m (lane m b s (j + l)) r t

@@ -1,4 +1,4 @@
--- What follows from the equations, for every shape: the statements of specs/Theorems. A prime enters in `served` alone.
+-- What follows from the equations, for every shape: the statements of specs/Theorems. A prime enters in `prime-served` alone.
 use mathlib.Core.Path.{_≡_, refl, sym, ap, _∙_}
 use mathlib.Core.Logic.{_≢_}
 use mathlib.Core.Bool.{Bool, true, false, not, true≢false}
@@ -10,7 +10,7 @@ use lib.Dec.{eqb}
 use borrow.Author.Tests.{eq-eqb, ne-eqb, eqb-true}
 use Rattle.parity.specs.Xor.{_⊕_}
 use Rattle.parity.specs.Sum.{count, some}
-use Rattle.parity.specs.Shape.{Shape}
+use Rattle.parity.specs.Shape.{Prime, Shape}
 use Rattle.parity.specs.Equations.{amountH, amountD, H, D}
 use Rattle.parity.specs.Stripe.{byte, lane, Stripe, Valid, brokenRows, brokenDiagonals}
 use Rattle.parity.specs.Presence.{present, absences, differs, differing, DifferIn, Agrees}
@@ -28,9 +28,12 @@ use Rattle.parity.proofs.Stripes.{Alike, stripe-determined, stripe-comp
 pub frame : (m k b : ℕ) → Shape m k b → Frame m k
 frame m k b h = record { odd = h .value .odd; big = h .value .prime .big; small = h .few }
 
--- any two columns of a shape can be told from the others
+-- where m is prime any two columns can be told from the others
+pub prime-served : (m k : ℕ) → Prime m → k ≤ m → (u v : ℕ) → u < v → v < k + 2 → Served m k u v
+prime-served m k prime few u v l top = record { order = l; there = top; inverse = λ c. inverse m prime (v - u) (omega arith) (omega arith) }
+
 pub served : (m k b : ℕ) → Shape m k b → (u v : ℕ) → u < v → v < k + 2 → Served m k u v
-served m k b h u v l top = record { order = l; there = top; inverse = λ c. let f = h .few in inverse m (h .value .prime) (v - u) (omega arith) (omega arith) }
+served m k b h = prime-served m k (h .value .prime) (h .few)
 
 -- ---- columns that cover the absent ones, or those that differ
 

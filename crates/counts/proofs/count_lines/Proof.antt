@@ -7,7 +7,8 @@ use lib.Dec.{eqb}
 use denote.Ref.{now}
 use Rattle.parity.specs.Sum.{count, some}
 use Rattle.parity.specs.Stripe.{lane}
-use Rattle.counts.specs.Counts.{rest, breaking}
+use Rattle.lines.specs.Lines.{rest}
+use Rattle.counts.specs.Counts.{breaking}
 use Rattle.counts.proofs.Folds.{count-none, counted-same, counted-more, cross}
 use borrow.Author.Needs.{needs}
 use native.Mathlib.Omega.{arith}

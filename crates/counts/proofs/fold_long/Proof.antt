@@ -7,9 +7,9 @@ use denote.Ref.{now}
 use Rattle.parity.specs.Stripe.{lane}
 use Rattle.cells.specs.Runs.{Tells}
 use Rattle.cells.proofs.Tells.{tells-none, tells-next}
-use Rattle.counts.specs.Counts.{rest}
 use borrow.Author.Needs.{needs}
 use native.Mathlib.Omega.{arith}
+use Rattle.lines.specs.Lines.{rest}
 use Rattle.counts.proofs.fold_long.Statement.{statement}
 use Rattle.counts.proofs.fold_long.Tie as tie
 

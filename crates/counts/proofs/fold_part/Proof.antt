@@ -1,14 +1,9 @@
 -- `counts::fold_part` meets its contract: the seed plus the span, the cell added to it, and what comes of it or-ed together.
-use mathlib.Core.Path.{ap}
-use Prim.Native.Nat.{ℕ, _+_}
-use lib.ListN.{getD}
+use Prim.Native.Nat.{_+_}
 use denote.Ref.{now}
-use Rattle.parity.specs.Xor.{_⊕_}
 use Rattle.parity.specs.Stripe.{lane}
 use Rattle.cells.proofs.Tells.{tells-same}
-use Rattle.lines.specs.Lines.{real}
-use Rattle.lines.proofs.Lines.{span-line}
-use Rattle.counts.specs.Counts.{rest}
+use Rattle.lines.proofs.Equations.{rest-span}
 use Rattle.counts.proofs.Folds.{fold}
 use borrow.Author.Needs.{needs}
 use Rattle.counts.proofs.fold_part.Statement.{statement}
@@ -27,11 +22,10 @@ same-length : tie.Need-same-length
 same-length c = search needs
 
 returns : tie.Need-returns
-unfolding rest
 returns c =
     let a = c .before .before .before .before .before .before .before .before .before .before .before .before .before .args in
     tells-same (fold (c .before .before .before .before .before .before .before .before .sum-part .ensures) (c .before .before .before .before .add-cell .ensures) (c .any .ensures)) (λ l h.
-    ap (λ (v : ℕ). getD (now (a .seed)) (a .j + l) 0 ⊕ v ⊕ real (a .g .m) (lane (a .g .m) (a .g .b) (now (a .s)) (a .j + l)) (a .i) (a .t)) (span-line (a .g .m) (lane (a .g .m) (a .g .b) (now (a .s)) (a .j + l)) (a .slant) (a .i) (a .k)))
+    rest-span (now (a .seed)) (a .g .m) (lane (a .g .m) (a .g .b) (now (a .s)) (a .j + l)) (a .slant) (a .i) (a .k) (a .t) (a .j + l))
 
 pub fold-part-spec : {M : Type 1} → statement M
 fold-part-spec =

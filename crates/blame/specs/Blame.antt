@@ -1,0 +1,67 @@
+-- Which column of a stripe that is not valid can be the wrong one, and its rewriting.
+--   Suspects m k b s r      what r says of the stripe s: Nothing, that no lane breaks; Column u, that only column u can be the wrong one;
+--                           Nobody, that no column alone can
+--   Rewrote m k b u s t     t is s, but that column u is the candidate for it
+-- In parts:
+--   First r n f             r is the first number below n at which f is not zero; n where there is none
+--   Odd r b n f             r is a lane below b at which not all of f r 0 to f r (n - 1) are zero; b or more where there is none
+--   Breaks m k b s r        r is a lane below b whose equations do not hold; b or more where there is none
+--   Turned m h d u          the diagonals' amounts d are the rows' amounts h, turned by u
+--   Whether r P             r is true exactly if P holds
+--   Fit m k h d u           column u can be the wrong one of a lane whose rows break by h and whose diagonals break by d
+--   Blames m k h d r        what r says of such a lane: Column u, that column u can be the wrong one; Nobody, that none can
+use mathlib.Core.Path.{_≡_}
+use mathlib.Core.Logic.{_≢_}
+use mathlib.Core.Bool.{Bool, true, false}
+use mathlib.Core.List.{List}
+use Prim.Native.Nat.{ℕ, _+_, _-_, _≤_, _<_}
+use lib.ListN.{length}
+use Rattle.parity.specs.Xor.{_⊕_}
+use Rattle.parity.specs.Equations.{back, Holds}
+use Rattle.parity.specs.Stripe.{byte, lane}
+use Rattle.parity.specs.Candidate.{candidate, FitsBut}
+use Rattle.blame.specs.declared.Suspect.{Suspect}
+use Rattle.blame.specs.declared.Suspect.the-variants.{Nothing, Column, Nobody}
+
+abbrev pub Sound : ℕ → ℕ → ℕ → List ℕ → Type 0
+Sound m k b s = (l : ℕ) → l < b → Holds m k (lane m b s l)
+
+abbrev pub Suspects : ℕ → ℕ → ℕ → List ℕ → Suspect → Type 0
+Suspects m k b s Nothing = Sound m k b s
+Suspects m k b s (Column u) = (Sound m k b s → ⊥) × (u < k + 2) × ((x : ℕ) → x < k + 2 → FitsBut m k b x s → x ≡ u)
+Suspects m k b s Nobody = (Sound m k b s → ⊥) × ((x : ℕ) → x < k + 2 → FitsBut m k b x s → ⊥)
+
+pub record Rewrote (m k b u : ℕ) (s t : List ℕ) : Type 0 where
+  pub size : length t ≡ length s
+  pub inside : (l i : ℕ) → l < b → i < m - 1 → byte m b t l i u ≡ candidate m k (lane m b s l) u i u
+  pub other : (l i y : ℕ) → l < b → i < m - 1 → y < k + 2 → y ≢ u → byte m b t l i y ≡ byte m b s l i y
+
+pub record First (r n : ℕ) (f : ℕ → ℕ) : Type 0 where
+  pub within : r ≤ n
+  pub before : (l : ℕ) → l < r → f l ≡ 0
+  pub there : r < n → f r ≡ 0 → ⊥
+
+pub record Odd (r b n : ℕ) (f : ℕ → ℕ → ℕ) : Type 0 where
+  pub there : r < b → ((i : ℕ) → i < n → f r i ≡ 0) → ⊥
+  pub none : b ≤ r → (l i : ℕ) → l < b → i < n → f l i ≡ 0
+
+pub record Breaks (m k b : ℕ) (s : List ℕ) (r : ℕ) : Type 0 where
+  pub there : r < b → Holds m k (lane m b s r) → ⊥
+  pub none : b ≤ r → Sound m k b s
+
+abbrev pub Turned : ℕ → (ℕ → ℕ) → (ℕ → ℕ) → ℕ → Type 0
+Turned m h d u = (i : ℕ) → i < m - 1 → d i ≡ h (back m i u) ⊕ h (back m (m - 1) u)
+
+pub record Whether (r : Bool) (P : Type 0) : Type 0 where
+  pub yes : r ≡ true → P
+  pub no : r ≡ false → P → ⊥
+
+pub record Fit (m k : ℕ) (h d : ℕ → ℕ) (u : ℕ) : Type 0 where
+  pub datum : u < k → Turned m h d u
+  pub rows : u ≡ k → (i : ℕ) → i < m - 1 → d i ≡ 0
+  pub diagonals : u ≡ k + 1 → (i : ℕ) → i < m - 1 → h i ≡ 0
+
+abbrev pub Blames : ℕ → ℕ → (ℕ → ℕ) → (ℕ → ℕ) → Suspect → Type 0
+Blames m k h d Nothing = ⊥
+Blames m k h d (Column u) = (u < k + 2) × Fit m k h d u
+Blames m k h d Nobody = (x : ℕ) → x < k + 2 → Fit m k h d x → ⊥
