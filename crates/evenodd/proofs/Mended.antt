@@ -6,13 +6,13 @@ use mathlib.Core.Path.{_≡_, refl, sym, ap, _∙_}
 use mathlib.Core.Logic.{_≢_, by-cases}
 use mathlib.Core.Bool.{Bool, true, false}
 use mathlib.Core.List.{List}
-use Prim.Native.Nat.{ℕ, _+_, _-_, _≤_, _<_}
+use Prim.Native.Nat.{ℕ, _+_, _-_, _*_, _≤_, _<_}
 use native.Mathlib.Decide.{ℕ-discrete}
 use native.Mathlib.Omega.{arith}
 use lib.Dec.{eqb}
 use lib.ListN.{length}
 use borrow.Author.Tests.{eq-eqb, ne-eqb}
-use Rattle.parity.specs.Shape.{Shape}
+use Rattle.parity.specs.Shape.{Shape, stripeLength}
 use Rattle.parity.specs.Equations.{Holds}
 use Rattle.parity.specs.Stripe.{byte, lane, Stripe, Valid}
 use Rattle.parity.specs.Presence.{differs, differing, DifferIn}
@@ -20,8 +20,19 @@ use Rattle.parity.specs.Candidate.{candidate, FitsBut}
 use Rattle.parity.proofs.Bytes.{stripe-ext}
 use Rattle.parity.proofs.Cells.{holds-same}
 use Rattle.parity.proofs.Columns.{same-column, column-same}
-use Rattle.parity.proofs.Count.{one-pass}
+use Rattle.parity.proofs.Count.{one-pass, few-pass}
+use Rattle.parity.proofs.Theorems.{few-differ}
 use Rattle.parity.proofs.Fits.{rewritten, rewritten-byte, rewritten-other, fits-valid, valid-fits}
+use Rattle.lines.specs.declared.Grid.{Grid}
+use Rattle.evenodd.specs.declared.mending.Mended.{Mended}
+use Rattle.evenodd.specs.declared.mending.Mended.the-variants as mended
+use Rattle.evenodd.specs.declared.shapes.Refusal.the-variants.{Unmendable}
+use Rattle.evenodd.specs.Refusals.{pass, refuse}
+use Rattle.evenodd.specs.Shapes.{stripeRules}
+use Rattle.evenodd.specs.Mends.{blameRules, Mends}
+use Rattle.evenodd.specs.Blamed.{Blamed, Patched}
+use Rattle.evenodd.proofs.Rules.{gives-first, gives-next, gives-after}
+use Rattle.evenodd.proofs.Stripe.{stripe-passed}
 
 module _ (m k b : ℕ) (h : Shape m k b) (s : List ℕ) where
   -- what can't be fitted with any column left out can't be mended
@@ -68,3 +79,25 @@ module _ (m k b : ℕ) (h : Shape m k b) (s : List ℕ) where
 
       pub mended-column : (u < k + 2) × Valid m k b after × DifferIn m k b (eqb u) s after
       mended-column = (hu, valid, differ)
+
+-- ---- what the loops below ask for, and what mend's last rule and its answer ask for
+
+pub blamed-length : {g : Grid} {k : ℕ} {s : List ℕ} → Blamed g k s → length s ≡ (k + 2) * g .column
+unfolding stripeLength
+blamed-length {k = k} p = p .stripe ∙ sym (ap (λ (n : ℕ). (k + 2) * n) (p .column))
+
+pub mend-answer : (m k b : ℕ) (s after : List ℕ) → Shape m k b → length s ≡ stripeLength m k b → (r : Mended) → Patched m k b s after r → Mends m k b s after r
+unfolding differing
+mend-answer m k b s after h stripe mended.Intact f = record {
+  told = gives-after (stripeRules m k b s) (blameRules m k b s) pass (stripe-passed m k b s h stripe)
+      (gives-next (λ c. c s (f .0) (few-pass (k + 2) 0 (differs m b s s) (λ t ht ne. column-same m b s s t (λ l i hl hi. refl)))) refl);
+  rewritten = f;
+}
+mend-answer m k b s after h stripe (mended.Column u) f = record {
+  told = gives-after (stripeRules m k b s) (blameRules m k b s) pass (stripe-passed m k b s h stripe) (gives-next (λ c. c after (f .1) (few-differ m k b u s after (f .2))) refl);
+  rewritten = f;
+}
+mend-answer m k b s after h stripe (mended.Refused r) f = record {
+  told = rw (f .0) (gives-after (stripeRules m k b s) (blameRules m k b s) (refuse Unmendable) (stripe-passed m k b s h stripe) (gives-first (f .1)));
+  rewritten = f .2;
+}

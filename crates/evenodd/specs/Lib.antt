@@ -8,5 +8,6 @@ pub mod Checks
 pub mod Restores
 pub mod Gapped
 pub mod Mends
+pub mod Blamed
 pub mod Determined
 pub mod EndToEnd

@@ -16,6 +16,7 @@ pub use maps::Gaps;
 pub use maps::Map;
 pub use maps::Marked;
 pub use mending::Mended;
+pub use mending::mend;
 pub use restoring::Restored;
 pub use restoring::restore;
 pub use shapes::Judged;
