@@ -9,6 +9,7 @@ use native.Mathlib.Decide.{decLt}
 use native.Mathlib.Omega.{arith}
 use denote.Ref.{RefT, now}
 use lib.Dec.{eqb}
+use lib.Seq.{ext-getD}
 use Rattle.evenodd.specs.declared.maps.Marked.the-variants as marked
 use Rattle.evenodd.specs.declared.shapes.Judged.the-variants as judged
 use Rattle.evenodd.specs.declared.showing.Place.{Place}
@@ -17,9 +18,9 @@ use Rattle.evenodd.specs.Refusals.{Verdict, Gives}
 use Rattle.evenodd.specs.Shapes.{shapeRules}
 use Rattle.evenodd.specs.Maps.{placeRules}
 use Rattle.evenodd.specs.Shows.{showRules, Places, PartOf, PartAt}
-use Rattle.evenodd.specs.Determined.{JudgesOne, NewOne, MarksOne, MarkedTwice, JudgesPlaceOne, PlacesOne, SamePart, ShowsOne, PlacesUnread, ShowsUnread}
+use Rattle.evenodd.specs.Determined.{JudgesOne, NewOne, OfBytesOne, AsBytesOne, MarksOne, MarkedTwice, JudgesPlaceOne, PlacesOne, SamePart, ShowsOne, PlacesUnread, ShowsUnread}
 use Rattle.evenodd.proofs.Rules.{passes-not, refuse-one, gives-one}
-use Rattle.evenodd.proofs.Presence.{same-map}
+use Rattle.evenodd.proofs.Presence.{same-map, past-all}
 
 pub judges-one : JudgesOne
 unfolding JudgesOne
@@ -31,6 +32,17 @@ judges-one m k b (judged.Refused f) (judged.Refused g) x y = ap judged.Refused (
 pub new-one : NewOne
 unfolding NewOne
 new-one r q x y = same-map r q (x .whole) (y .whole) (λ t. x .absent t ∙ sym (y .absent t))
+
+pub of-bytes-one : OfBytesOne
+unfolding OfBytesOne
+of-bytes-one bytes r q x y = same-map r q (x .whole) (y .whole) (λ t.
+    by-cases (decLt t 129)
+    (λ l. x .at t l ∙ sym (y .at t l))
+    (λ n. past-all (r .places) t (let w = x .whole in omega arith) ∙ sym (past-all (q .places) t (let w = y .whole in omega arith))))
+
+pub as-bytes-one : AsBytesOne
+unfolding AsBytesOne
+as-bytes-one map x y p q = ext-getD 0 x y (p .whole ∙ sym (q .whole)) (λ t l. let w = p .whole in p .at t (omega arith) ∙ sym (q .at t (omega arith)))
 
 pub marks-one : MarksOne
 unfolding MarksOne

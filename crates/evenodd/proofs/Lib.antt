@@ -2,6 +2,7 @@
 pub mod Rules
 pub mod Shape
 pub mod Presence
+pub mod Bytes
 pub mod Shown
 pub mod Determined
 pub mod Stripe

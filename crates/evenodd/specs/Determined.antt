@@ -1,7 +1,7 @@
 -- Each promise determines its result: two results that meet it are equal. Each statement is a type, which proofs/Determined inhabits.
 -- What `is_present` and `number` promise is an equation, so there is nothing to say of them. Of a part that show hands out, the place and the bytes are
 -- determined: `SamePart`. The name under which the logic follows a reference is no part of the answer.
---   JudgesOne, NewOne, MarksOne, JudgesPlaceOne, PlacesOne, ShowsOne, EncodesOne, ChecksOne, RestoresOne, MendsOne    the promise of each call
+--   JudgesOne, NewOne, OfBytesOne, AsBytesOne, MarksOne, JudgesPlaceOne, PlacesOne, ShowsOne, EncodesOne, ChecksOne, RestoresOne, MendsOne    the promise of each call
 --   MarkedTwice                  marking twice equals marking once
 --   PlacesUnread, ShowsUnread    no byte of stripe or bench alters where a column is shown: their lengths alone are asked
 --   RestoresUnread               what stands in an absent column's place alters neither restore's answer nor the bench
@@ -21,7 +21,7 @@ use Rattle.evenodd.specs.declared.restoring.Restored.{Restored}
 use Rattle.evenodd.specs.declared.shapes.Judged.{Judged}
 use Rattle.evenodd.specs.declared.showing.Place.{Place}
 use Rattle.evenodd.specs.Shapes.{Judges}
-use Rattle.evenodd.specs.Maps.{New, Marks, JudgesPlace}
+use Rattle.evenodd.specs.Maps.{New, OfBytes, AsBytes, Marks, JudgesPlace}
 use Rattle.evenodd.specs.Shows.{Places, Shows}
 use Rattle.evenodd.specs.Encodes.{Encodes}
 use Rattle.evenodd.specs.Checks.{Checks}
@@ -33,6 +33,12 @@ JudgesOne = (m k b : ℕ) (r q : Judged) → Judges m k b r → Judges m k b q �
 
 unfoldable pub NewOne : Type 0
 NewOne = (r q : Map) → New r → New q → r ≡ q
+
+unfoldable pub OfBytesOne : Type 0
+OfBytesOne = (bytes : List ℕ) (r q : Map) → OfBytes bytes r → OfBytes bytes q → r ≡ q
+
+unfoldable pub AsBytesOne : Type 0
+AsBytesOne = (map : Map) (x y : List ℕ) → AsBytes map x → AsBytes map y → x ≡ y
 
 unfoldable pub MarksOne : Type 0
 MarksOne = (state : Bool) (before : Map) (place : ℕ) (r q : Map) → Marks state before place r → Marks state before place q → r ≡ q

@@ -1,5 +1,7 @@
 -- The presence map. A map's places are a list of 129 marks, place 0 first.
 --   New r                       every place is absent
+--   OfBytes bytes r             place t is present exactly when byte t is 1
+--   AsBytes map bytes           byte t is 1 where place t is present, otherwise 0
 --   Marks state before place after   that place is in the state, and every other place as before
 --   JudgesPlace place r         a place of 129 or more is refused
 --   PresentFrom n map           a place at or above n is present
@@ -12,7 +14,7 @@ use mathlib.Core.Bool.{Bool, true, false, cond, not}
 use mathlib.Core.List.{List, [], _∷_}
 use Prim.Native.Nat.{ℕ, _+_, _≤_, _<_}
 use lib.Dec.{eqb}
-use lib.ListN.{length}
+use lib.ListN.{length, getD}
 use Rattle.parity.specs.Sum.{count}
 use Rattle.parity.specs.Presence.{present, absences}
 use Rattle.evenodd.specs.declared.maps.Map.{Map}
@@ -25,6 +27,14 @@ use Rattle.evenodd.specs.Refusals.{Verdict, pass, refuse, Rule, Gives}
 pub record New (r : Map) : Type 0 where
   pub whole : length (r .places) ≡ 129
   pub absent : (t : ℕ) → present (r .places) t ≡ false
+
+pub record OfBytes (bytes : List ℕ) (r : Map) : Type 0 where
+  pub whole : length (r .places) ≡ 129
+  pub at : (t : ℕ) → t < 129 → present (r .places) t ≡ eqb (getD bytes t 0) 1
+
+pub record AsBytes (map : Map) (bytes : List ℕ) : Type 0 where
+  pub whole : length bytes ≡ 129
+  pub at : (t : ℕ) → t < 129 → getD bytes t 0 ≡ cond (present (map .places) t) 1 0
 
 pub record Marks (state : Bool) (before : Map) (place : ℕ) (after : Map) : Type 0 where
   pub whole : length (after .places) ≡ 129

@@ -6,7 +6,7 @@ ghost use Prim.Native.Nat.{_+_, _≤_, _<_};
 ghost use Rattle.parity.specs.Presence.{present};
 ghost use mathlib.Core.Logic.{_↔_};
 ghost use mathlib.Core.List.{List};
-ghost use Rattle.evenodd.specs.Maps.{New, Marks, JudgesPlace, PresentFrom, Counts};
+ghost use Rattle.evenodd.specs.Maps.{New, OfBytes, AsBytes, Marks, JudgesPlace, PresentFrom, Counts};
 
 pub struct Map {
     places: [bool; 129],
@@ -65,6 +65,28 @@ impl Map {
         Self {
             places: [false; 129],
         }
+    }
+
+    // The map that 129 bytes give: 1 is present, any other byte is absent.
+    pub fn of_bytes(bytes: &[u8; 129]) -> Self
+        ensures { λ r. ⌜ OfBytes (now (bytes .entry)) r ⌝ }
+    {
+        let mut places = [false; 129];
+        for t in 0..129 {
+            places[t] = bytes[t] == 1;
+        }
+        Self { places }
+    }
+
+    // The map in 129 bytes: 1 for present, 0 for absent.
+    pub fn bytes(self) -> [u8; 129]
+        ensures { λ r. ⌜ AsBytes self r ⌝ }
+    {
+        let mut bytes: [u8; 129] = [0; 129];
+        for t in 0..129 {
+            bytes[t] = self.places[t] as u8;
+        }
+        bytes
     }
 
     // The map with a place marked present; a place of 129 or more leaves it as it is.

@@ -1,0 +1,47 @@
+-- Each call determines what it gives: the proofs of the statements in specs/Determined. The promise of the call below leaves one answer,
+-- and the results are that answer's.
+use Rattle.evenodd.specs.Determined.{EncodesOne, ChecksOne, RestoresOne, MendsOne, OfBytesOne, AsBytesOne, PlacesOne}
+use Rattle.evenodd.proofs.Determined.{of-bytes-one, as-bytes-one, places-one}
+use Rattle.evenodd.proofs.Outcomes.{encodes-one, checks-one, restores-one, mends-one}
+use Rattle.image.specs.Determined.{ReadsOne}
+use Rattle.image.proofs.Determined.{reads-one}
+use Rattle.oarwillow.specs.Determined.{EncodeGivesOne, CheckGivesOne, RestoreGivesOne, MendGivesOne, ShowGivesOne, ReadGivesOne}
+
+pub encode-gives-one : EncodeGivesOne
+unfolding EncodeGivesOne EncodesOne
+encode-gives-one m k b s after after′ r r′ p q =
+    let (e, bytes) = encodes-one m k b s after after′ (p .answer) (q .answer) (p .meets) (q .meets) in
+    (bytes, cc)
+
+pub check-gives-one : CheckGivesOne
+unfolding CheckGivesOne ChecksOne
+check-gives-one m k b s x y r x′ y′ r′ p q =
+    let e = checks-one m k b s (p .answer) (q .answer) (p .meets) (q .meets) in
+    (cc, cc, cc)
+
+pub restore-gives-one : RestoreGivesOne
+unfolding RestoreGivesOne RestoresOne OfBytesOne
+restore-gives-one m k b places s bench after n x y r after′ n′ x′ y′ r′ p q =
+    let same = of-bytes-one places (p .map) (q .map) (p .marked) (q .marked) in
+    let (e, bytes) = restores-one m k b (p .map) s bench after after′ (p .answer) (q .answer) (p .meets) (rw same (q .meets)) in
+    (bytes, cc, cc, cc, cc)
+
+pub mend-gives-one : MendGivesOne
+unfolding MendGivesOne MendsOne
+mend-gives-one m k b s after x r after′ x′ r′ p q =
+    let (e, bytes) = mends-one m k b s after after′ (p .answer) (q .answer) (p .meets) (q .meets) in
+    (bytes, cc, cc)
+
+pub show-gives-one : ShowGivesOne
+unfolding ShowGivesOne PlacesOne OfBytesOne
+show-gives-one m k b places s bench column x y n r x′ y′ n′ r′ p q =
+    let same = of-bytes-one places (p .map) (q .map) (p .marked) (q .marked) in
+    let e = places-one m k b (p .map) s bench column (p .answer) (q .answer) (p .meets) (rw same (q .meets)) in
+    (cc, cc, cc, cc)
+
+pub read-gives-one : ReadGivesOne
+unfolding ReadGivesOne ReadsOne AsBytesOne
+read-gives-one image s after places x y z r after′ places′ x′ y′ z′ r′ p q =
+    let (e, bytes) = reads-one image s after after′ (p .answer) (q .answer) (p .meets) (q .meets) in
+    let marks = as-bytes-one (p .answer .map) places places′ (p .marks) (rw e (q .marks)) in
+    (bytes, marks, cc, cc, cc, cc)

@@ -1,0 +1,70 @@
+-- What each call for C gives: there is an answer of the call below it that meets its promise, and the number and the results are that
+-- answer's. The parameters are the arguments, then the results, then the number.
+--   EncodeGives, CheckGives, RestoreGives, MendGives, ShowGives, ReadGives
+use mathlib.Core.Path.{_≡_}
+use mathlib.Core.List.{List}
+use Prim.Native.Nat.{ℕ}
+use Rattle.evenodd.specs.declared.checking.Checked.{Checked}
+use Rattle.evenodd.specs.declared.encoding.Encoded.{Encoded}
+use Rattle.evenodd.specs.declared.maps.Map.{Map}
+use Rattle.evenodd.specs.declared.mending.Mended.{Mended}
+use Rattle.evenodd.specs.declared.restoring.Restored.{Restored}
+use Rattle.evenodd.specs.declared.showing.Place.{Place}
+use Rattle.evenodd.specs.Maps.{OfBytes, AsBytes}
+use Rattle.evenodd.specs.Encodes.{Encodes, encoded}
+use Rattle.evenodd.specs.Checks.{Checks, rowsOf, diagonalsOf}
+use Rattle.evenodd.specs.Checks as checks
+use Rattle.evenodd.specs.Restores.{Restores, restored}
+use Rattle.evenodd.specs.Mends.{Mends, columnOf}
+use Rattle.evenodd.specs.Mends as mends
+use Rattle.evenodd.specs.Shows.{Places, placed}
+use Rattle.image.specs.declared.answers.Contents.{Contents}
+use Rattle.image.specs.Reads.{ReadInto, answered, mOf, kOf, bOf}
+use Rattle.oarwillow.specs.Results.{status, countOf, firstOf, secondOf, fromBenchOf, startOf, lengthOf}
+
+pub record EncodeGives (m k b : ℕ) (before after : List ℕ) (r : ℕ) : Type 0 where
+  pub answer : Encoded
+  pub meets : Encodes m k b before after answer
+  pub number : r ≡ status (encoded answer)
+
+pub record CheckGives (m k b : ℕ) (s : List ℕ) (x y r : ℕ) : Type 0 where
+  pub answer : Checked
+  pub meets : Checks m k b s answer
+  pub rows : x ≡ rowsOf answer
+  pub diagonals : y ≡ diagonalsOf answer
+  pub number : r ≡ status (checks.verdictOf answer)
+
+pub record RestoreGives (m k b : ℕ) (places s before after : List ℕ) (n x y r : ℕ) : Type 0 where
+  pub map : Map
+  pub marked : OfBytes places map
+  pub answer : Restored
+  pub meets : Restores m k b map s before after answer
+  pub count : n ≡ countOf answer
+  pub first : x ≡ firstOf answer
+  pub second : y ≡ secondOf answer
+  pub number : r ≡ status (restored answer)
+
+pub record MendGives (m k b : ℕ) (before after : List ℕ) (x r : ℕ) : Type 0 where
+  pub answer : Mended
+  pub meets : Mends m k b before after answer
+  pub column : x ≡ columnOf answer
+  pub number : r ≡ status (mends.verdictOf answer)
+
+pub record ShowGives (m k b : ℕ) (places s bench : List ℕ) (column x y n r : ℕ) : Type 0 where
+  pub map : Map
+  pub marked : OfBytes places map
+  pub answer : Place
+  pub meets : Places m k b map s bench column answer
+  pub from : x ≡ fromBenchOf answer
+  pub start : y ≡ startOf answer
+  pub length : n ≡ lengthOf answer
+  pub number : r ≡ status (placed answer)
+
+pub record ReadGives (image before after places : List ℕ) (x y z r : ℕ) : Type 0 where
+  pub answer : Contents
+  pub meets : ReadInto image before after answer
+  pub marks : AsBytes (answer .map) places
+  pub m : x ≡ mOf (answer .answer)
+  pub k : y ≡ kOf (answer .answer)
+  pub b : z ≡ bOf (answer .answer)
+  pub number : r ≡ status (answered (answer .answer))

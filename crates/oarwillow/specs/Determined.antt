@@ -1,0 +1,30 @@
+-- Each call determines what it gives: two outcomes that meet its promise are equal. Each statement is a type, which proofs/Determined
+-- inhabits.
+use mathlib.Core.Path.{_≡_}
+use mathlib.Core.List.{List}
+use Prim.Native.Nat.{ℕ}
+use Rattle.oarwillow.specs.Calls.{EncodeGives, CheckGives, RestoreGives, MendGives, ShowGives, ReadGives}
+
+unfoldable pub EncodeGivesOne : Type 0
+EncodeGivesOne = (m k b : ℕ) (s after after′ : List ℕ) (r r′ : ℕ) → EncodeGives m k b s after r → EncodeGives m k b s after′ r′ → (after ≡ after′) × (r ≡ r′)
+
+unfoldable pub CheckGivesOne : Type 0
+CheckGivesOne = (m k b : ℕ) (s : List ℕ) (x y r x′ y′ r′ : ℕ) → CheckGives m k b s x y r → CheckGives m k b s x′ y′ r′ → (x ≡ x′) × (y ≡ y′) × (r ≡ r′)
+
+unfoldable pub RestoreGivesOne : Type 0
+RestoreGivesOne = (m k b : ℕ) (places s bench after : List ℕ) (n x y r : ℕ) (after′ : List ℕ) (n′ x′ y′ r′ : ℕ)
+    → RestoreGives m k b places s bench after n x y r → RestoreGives m k b places s bench after′ n′ x′ y′ r′
+    → (after ≡ after′) × (n ≡ n′) × (x ≡ x′) × (y ≡ y′) × (r ≡ r′)
+
+unfoldable pub MendGivesOne : Type 0
+MendGivesOne = (m k b : ℕ) (s after : List ℕ) (x r : ℕ) (after′ : List ℕ) (x′ r′ : ℕ)
+    → MendGives m k b s after x r → MendGives m k b s after′ x′ r′ → (after ≡ after′) × (x ≡ x′) × (r ≡ r′)
+
+unfoldable pub ShowGivesOne : Type 0
+ShowGivesOne = (m k b : ℕ) (places s bench : List ℕ) (column x y n r x′ y′ n′ r′ : ℕ)
+    → ShowGives m k b places s bench column x y n r → ShowGives m k b places s bench column x′ y′ n′ r′ → (x ≡ x′) × (y ≡ y′) × (n ≡ n′) × (r ≡ r′)
+
+unfoldable pub ReadGivesOne : Type 0
+ReadGivesOne = (image s after places : List ℕ) (x y z r : ℕ) (after′ places′ : List ℕ) (x′ y′ z′ r′ : ℕ)
+    → ReadGives image s after places x y z r → ReadGives image s after′ places′ x′ y′ z′ r′
+    → (after ≡ after′) × (places ≡ places′) × (x ≡ x′) × (y ≡ y′) × (z ≡ z′) × (r ≡ r′)

@@ -1,0 +1,178 @@
+// The calls for programs in C, as include/oarwillow.h has them. Each hands its arguments on, returns the number of the refusal or 0,
+// and writes its other results behind the pointers, on a refusal too.
+use evenodd::Checked;
+use evenodd::Encoded;
+use evenodd::Map;
+use evenodd::Mended;
+use evenodd::Place;
+use evenodd::Restored;
+use image::Read;
+ghost use Rattle.oarwillow.specs.Calls.{EncodeGives, CheckGives, RestoreGives, MendGives, ShowGives, ReadGives};
+
+// Writes H and D.
+#[no_mangle]
+pub extern "C" fn oarwillow_encode(m: usize, k: usize, b: usize, stripe: &mut [u8]) -> u8
+    ensures { λ r. ⌜ EncodeGives m k b (now (stripe .entry)) (now (stripe .exit)) r ⌝ }
+{
+    match evenodd::encode(m, k, b, stripe) {
+        Encoded::Done => 0,
+        Encoded::Refused(r) => r.number(),
+    }
+}
+
+// Counts the rows whose H equation breaks and the numbers whose D equation breaks.
+#[no_mangle]
+pub extern "C" fn oarwillow_check(
+    m: usize,
+    k: usize,
+    b: usize,
+    stripe: &[u8],
+    rows: &mut usize,
+    diagonals: &mut usize,
+) -> u8
+    ensures { λ r. ⌜ CheckGives m k b (now (stripe .entry)) (now (rows .exit)) (now (diagonals .exit)) r ⌝ }
+{
+    *rows = 0;
+    *diagonals = 0;
+    match evenodd::check(m, k, b, stripe) {
+        Checked::Intact => 0,
+        Checked::Broken {
+            rows: x,
+            diagonals: y,
+        } => {
+            *rows = x;
+            *diagonals = y;
+            0
+        }
+        Checked::Refused(r) => r.number(),
+    }
+}
+
+// Restores the absent columns to the bench.
+#[no_mangle]
+pub extern "C" fn oarwillow_restore(
+    m: usize,
+    k: usize,
+    b: usize,
+    places: &[u8; 129],
+    stripe: &[u8],
+    bench: &mut [u8],
+    count: &mut usize,
+    first: &mut usize,
+    second: &mut usize,
+) -> u8
+    ensures { λ r. ⌜ RestoreGives m k b (now (places .entry)) (now (stripe .entry)) (now (bench .entry)) (now (bench .exit)) (now (count .exit)) (now (first .exit)) (now (second .exit)) r ⌝ }
+{
+    *count = 0;
+    *first = 129;
+    *second = 129;
+    let map = Map::of_bytes(places);
+    match evenodd::restore(m, k, b, map, stripe, bench) {
+        Restored::Columns {
+            count: n,
+            first: x,
+            second: y,
+        } => {
+            *count = n;
+            *first = x;
+            *second = y;
+            0
+        }
+        Restored::Refused(r) => r.number(),
+    }
+}
+
+// Rewrites the one column that is wrong.
+#[no_mangle]
+pub extern "C" fn oarwillow_mend(
+    m: usize,
+    k: usize,
+    b: usize,
+    stripe: &mut [u8],
+    column: &mut usize,
+) -> u8
+    ensures { λ r. ⌜ MendGives m k b (now (stripe .entry)) (now (stripe .exit)) (now (column .exit)) r ⌝ }
+{
+    *column = 129;
+    match evenodd::mend(m, k, b, stripe) {
+        Mended::Intact => 0,
+        Mended::Column(x) => {
+            *column = x;
+            0
+        }
+        Mended::Refused(r) => r.number(),
+    }
+}
+
+// Says where a column lies.
+#[no_mangle]
+pub extern "C" fn oarwillow_show(
+    m: usize,
+    k: usize,
+    b: usize,
+    places: &[u8; 129],
+    stripe: &[u8],
+    bench: &[u8],
+    column: usize,
+    from_bench: &mut usize,
+    start: &mut usize,
+    length: &mut usize,
+) -> u8
+    ensures { λ r. ⌜ ShowGives m k b (now (places .entry)) (now (stripe .entry)) (now (bench .entry)) column (now («from_bench» .exit)) (now (start .exit)) (now (length .exit)) r ⌝ }
+{
+    *from_bench = 0;
+    *start = 0;
+    *length = 0;
+    let map = Map::of_bytes(places);
+    match evenodd::place_of(m, k, b, map, stripe, bench, column) {
+        Place::InStripe {
+            start: x,
+            length: n,
+        } => {
+            *start = x;
+            *length = n;
+            0
+        }
+        Place::InBench {
+            start: y,
+            length: l,
+        } => {
+            *from_bench = 1;
+            *start = y;
+            *length = l;
+            0
+        }
+        Place::Refused(r) => r.number(),
+    }
+}
+
+// Reads a shelf image into a stripe.
+#[no_mangle]
+pub extern "C" fn oarwillow_read(
+    image: &[u8],
+    stripe: &mut [u8],
+    places: &mut [u8; 129],
+    m: &mut usize,
+    k: &mut usize,
+    b: &mut usize,
+) -> u8
+    ensures { λ r. ⌜ ReadGives (now (image .entry)) (now (stripe .entry)) (now (stripe .exit)) (now (places .exit)) (now (m .exit)) (now (k .exit)) (now (b .exit)) r ⌝ }
+{
+    let found = image::read(image, stripe);
+    let map = found.map;
+    let answer = found.answer;
+    let bytes = map.bytes();
+    *places = bytes;
+    *m = 0;
+    *k = 0;
+    *b = 0;
+    match answer {
+        Read::Shape { m: x, k: y, b: z } => {
+            *m = x;
+            *k = y;
+            *b = z;
+            0
+        }
+        Read::Refused(r) => r.number(),
+    }
+}
