@@ -14,6 +14,8 @@ use std::process::ExitCode;
 
 const USAGE: &str = "usage: model shelf < image
        model numbers
+       model asked
+       model expected
        model selftest
        model answer < requests
        model tally < requests
@@ -45,6 +47,22 @@ fn run(arguments: &[&str], out: &mut impl Write) -> io::Result<bool> {
         ["numbers"] => {
             for number in numbers::all() {
                 writeln!(out, "{} {} {}", number.name, number.word, number.computed)?;
+            }
+            Ok(true)
+        }
+        ["asked"] => {
+            for number in numbers::all() {
+                if let Some(request) = number.request {
+                    writeln!(out, "{request}")?;
+                }
+            }
+            Ok(true)
+        }
+        ["expected"] => {
+            for number in numbers::all() {
+                if number.request.is_some() {
+                    writeln!(out, "{}", number.expected)?;
+                }
             }
             Ok(true)
         }

@@ -4,7 +4,13 @@ use crate::code::*;
 use crate::image::shelf;
 use crate::requests::{Request, bytes_of, hex};
 
-pub struct Number { pub name: &'static str, pub word: &'static str, pub computed: String, pub expected: String }
+pub struct Number {
+    pub name: &'static str,
+    pub word: &'static str,
+    pub request: Option<String>,
+    pub computed: String,
+    pub expected: String,
+}
 
 const C1: &str = "010204081020152a391e";
 const C1_05: &str = "010205081020152a391e";
@@ -25,8 +31,8 @@ fn present(places: &[usize]) -> String {
 }
 
 fn ask(name: &'static str, request: String, expected: String) -> Number {
-    let request = Request::parse(&request).expect("the request is written rightly");
-    Number { name, word: request.word(), computed: request.answer(), expected }
+    let parsed = Request::parse(&request).expect("the request is written rightly");
+    Number { name, word: parsed.word(), computed: parsed.answer(), request: Some(request), expected }
 }
 
 fn zeros(count: usize) -> String { "00".repeat(count) }
@@ -39,7 +45,13 @@ pub fn all() -> Vec<Number> {
     let s = |t: &str| t.to_string();
     let mut list = vec![
         ask("C1", s("encode 3 3 1 01020408102000000000"), format!("0 {C1}")),
-        Number { name: "C1", word: "S", computed: hex(&main_sum(c1_shape, &bytes(C1))), expected: s("18") },
+        Number {
+            name: "C1",
+            word: "S",
+            request: None,
+            computed: hex(&main_sum(c1_shape, &bytes(C1))),
+            expected: s("18"),
+        },
         ask("C2", s("encode 3 1 1 010200000000"), s("0 010201020102")),
         ask("C3", format!("encode 5 5 1 {}{}", &C3[..40], zeros(8)), format!("0 {C3}")),
         ask(
@@ -102,6 +114,7 @@ pub fn all() -> Vec<Number> {
         Number {
             name: "C5-image",
             word: "shelf",
+            request: None,
             computed: shelf(&bytes(C5_IMAGE)).replace('\n', "|"),
             expected: s(C5_TEXT),
         },
