@@ -31,6 +31,10 @@ impl Random {
 
 const MAX: usize = usize::MAX;
 pub const SIZES: [usize; 16] = [1, 2, 3, 5, 7, 8, 16, 31, 64, 100, 128, 129, 200, 257, 1000, 4096];
+const SMALL: [(usize, usize, usize); 12] = [
+    (3, 1, 1), (3, 2, 2), (3, 3, 1), (3, 3, 17), (5, 1, 3), (5, 2, 1), (5, 4, 2), (5, 5, 1), (5, 5, 130), (7, 3, 1), (7, 6, 2),
+    (7, 7, 1),
+];
 pub const BAD_M: [usize; 36] = [
     0, 1, 2, 4, 6, 8, 9, 15, 21, 25, 27, 33, 35, 49, 51, 57, 77, 87, 91, 93, 119, 121, 123, 125, 126, 128, 129, 131,
     137, 256, 257, 259, 65_539, (1 << 32) + 3, MAX - 1, MAX,
@@ -135,6 +139,36 @@ impl Maker {
     pub fn cases(mut self, count: usize) -> impl Iterator<Item = Case> {
         let recipes: Vec<Recipe> = [code_recipes(), code_recipes(), image_recipes()].into_iter().flatten().collect();
         (0..count).map(move |n| self.make(&recipes[n % recipes.len()]))
+    }
+
+    /// At each of several small shapes: every set of at most two absent columns, of a valid stripe and with each
+    /// present column wrong, and a mend of every single wrong column.
+    pub fn every_pattern(mut self) -> Vec<Request> {
+        let mut requests = Vec::new();
+        for (m, k, b) in SMALL {
+            let shape = Shape { m, k, b };
+            let columns = shape.columns();
+            for wrong in 0..=columns {
+                let mut stripe = self.valid_stripe(shape);
+                if wrong < columns {
+                    self.hurt(shape, &mut stripe, wrong);
+                }
+                requests.push(Request::Check(shape, stripe.clone()));
+                requests.push(Request::Mend(shape, stripe.clone()));
+                for first in 0..=columns {
+                    for second in first..=columns {
+                        let map = Map::all_but(columns, &[first, second]);
+                        let mut read = stripe.clone();
+                        for column in [first, second].into_iter().filter(|&column| column < columns) {
+                            self.hurt(shape, &mut read, column);
+                        }
+                        let bench = self.random.bytes(shape.bench_length());
+                        requests.push(Request::Restore(shape, map, read, bench));
+                    }
+                }
+            }
+        }
+        requests
     }
 
     pub fn shelf_images(mut self, count: usize) -> impl Iterator<Item = (Vec<u8>, Option<u8>)> {

@@ -20,6 +20,7 @@ const USAGE: &str = "usage: model shelf < image
        model answer < requests
        model tally < requests
        model generate SEED COUNT
+       model every SEED
        model images SEED COUNT DIR";
 
 fn answer(out: &mut impl Write) -> io::Result<bool> {
@@ -73,6 +74,13 @@ fn run(arguments: &[&str], out: &mut impl Write) -> io::Result<bool> {
             let (Ok(seed), Ok(count)) = (seed.parse(), count.parse()) else { return usage() };
             for case in generate::Maker::new(seed).cases(count) {
                 writeln!(out, "{}", case.request)?;
+            }
+            Ok(true)
+        }
+        ["every", seed] => {
+            let Ok(seed) = seed.parse() else { return usage() };
+            for request in generate::Maker::new(seed).every_pattern() {
+                writeln!(out, "{request}")?;
             }
             Ok(true)
         }
