@@ -1,6 +1,6 @@
 -- Laws of show.
 --   NotRefused                   what holds where none of its rules applies
---   not-refused                  its rules pass: none applies
+--   passes, not-refused          its rules pass exactly where none applies
 --   show-2 .. show-4             the refusals after the shape's, each where those before it do not apply
 --   start-most                   the start of a column that is named fits a number
 --   show-stripe, show-first, show-second    where a column lies: in the stripe, in the first and in the second half of the bench
@@ -37,7 +37,7 @@ pub record NotRefused (m k b : ℕ) (map : Map) (s bench : List ℕ) (column : �
   pub few : absences k (map .places) ≤ 2
 
 module _ (m k b : ℕ) (map : Map) (s bench : List ℕ) (column : ℕ) where
-  passes : NotRefused m k b map s bench column → Gives (showRules m k b map s bench column) pass
+  pub passes : NotRefused m k b map s bench column → Gives (showRules m k b map s bench column) pass
   passes p =
       after-shape m k b (laterRules m k b map s bench column) pass (p .shape)
       (gives-next (λ f. f (p .stripe)) (gives-next (λ f. f (p .held)) (gives-next (p .clear) (gives-next (λ h. omega arith) (gives-next (λ h. omega arith) refl)))))

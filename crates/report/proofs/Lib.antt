@@ -1,0 +1,4 @@
+-- Laws of a report.
+pub mod Shown
+pub mod Judged
+pub mod Told

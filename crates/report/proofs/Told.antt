@@ -1,0 +1,154 @@
+-- What is known of a judged image where its report is written.
+--   small          an image of at most 16,384 bytes with at most two columns absent: a column is at most 16,352 bytes, and so are k of them
+--   enough         so a stripe of 49,056 bytes and a bench of 32,704 are enough
+--   Told, told     an outcome that names a shape: the image is short enough and well formed
+--   told-fits      the numbers of the shape have at most four digits
+--   tellable       where every column is there, the columns can be shown, and their text has room
+--   held-lent, text-lent    the same of the parts of the stripe and of the bench as they are lent
+--   reports-start  text that is written at the start of the buffer is the report
+use mathlib.Core.Path.{_≡_, refl, sym, ap, _∙_}
+use mathlib.Core.Bool.{Bool, true, false, not, cond}
+use mathlib.Core.List.{List, _++_}
+use Prim.Native.Nat.{ℕ, zero, suc, _+_, _*_, _-_, _≤_, _<_}
+use native.Mathlib.Nat.{add-mul, mul-add, mul-comm, mul-assoc, mul-le-mul-right}
+use native.Mathlib.Omega.{arith}
+use lib.ListN.{length, take, drop}
+use lib.Seq.{length-take-le, take-all}
+use Rattle.parity.specs.Sum.{count}
+use Rattle.parity.specs.Shape.{columnLength, stripeLength, benchLength}
+use Rattle.parity.specs.Presence.{present, absences}
+use Rattle.cells.proofs.Parts.{by-order}
+use Rattle.text.specs.Text.{Wrote}
+use Rattle.evenodd.specs.declared.maps.Map.{Map}
+use Rattle.evenodd.specs.declared.shapes.Refusal.the-variants as refusal
+use Rattle.evenodd.specs.Maps.{absentBelow}
+use Rattle.evenodd.proofs.Rules.{passed-first}
+use Rattle.evenodd.proofs.Presence.{absences-below}
+use Rattle.image.specs.declared.answers.Read.{Read}
+use Rattle.image.specs.declared.answers.Read.the-variants as read
+use Rattle.image.specs.declared.answers.Contents.{Contents}
+use Rattle.image.specs.Format.{presentBelow}
+use Rattle.image.specs.Reads.{ContentsOf}
+use Rattle.image.proofs.Filling.{Good}
+use Rattle.image.proofs.Laid.{image-laid}
+use Rattle.report.specs.declared.lines.Shape.{Shape}
+use Rattle.report.specs.declared.judging.Outcome.{Outcome}
+use Rattle.report.specs.declared.judging.Outcome.the-variants as outcome
+use Rattle.report.specs.declared.judging.Judgement.{Judgement}
+use Rattle.report.specs.Shown.{shown, Held}
+use Rattle.report.specs.Lines.{shapeLine, columnLines, answerLine}
+use Rattle.report.specs.Judgements.{Formed, stripeOf, benchOf, Leaves, JudgesFormed, JudgesImage}
+use Rattle.report.specs.Reports.{completeText, textOf, Tellable, Reports}
+use Rattle.report.proofs.Judged.{formed-said, formed-good, not-stray, bench-size}
+
+-- each place is present or absent
+present-absent : (n : ℕ) (map : List Bool) → presentBelow n map + absentBelow n map ≡ n
+unfolding presentBelow absentBelow count
+present-absent zero map = refl
+present-absent (suc n) map = go (present map n) (count n (present map)) (count n (λ x. not (present map x))) (present-absent n map)
+  where
+    go : (p : Bool) (x y : ℕ) → x + y ≡ n → cond p (suc x) x + cond (not p) (suc y) y ≡ suc n
+    go true x y e = omega arith
+    go false x y e = omega arith
+
+module _ {image : List ℕ} {m k b : ℕ} {map : List Bool} (g : Good image m k b map) (short : length image ≤ 16384) (few : absences k map ≤ 2) where
+  pub small : (k * columnLength m b ≤ 16352) × (columnLength m b ≤ 16352)
+  small =
+      let c = columnLength m b in
+      let w = g .formed in
+      let size = image-laid m k b map (w .stripe) (w .sized .whole) image (w .same) .size in
+      let there : k ≤ presentBelow (k + 2) map = omega (arith, present-absent (k + 2) map, absences-below k map) in
+      let some : k * c ≤ presentBelow (k + 2) map * c = mul-le-mul-right c there in
+      let one : 1 * c ≤ k * c = mul-le-mul-right c (g .shape .real) in
+      let real = g .shape .real in
+      (omega arith, omega arith)
+
+  pub enough : (stripeLength m k b ≤ 49056) × (benchLength m b ≤ 32704)
+  unfolding stripeLength benchLength
+  enough = let (all, one) = small in (omega (arith, add-mul k 2 (columnLength m b)), omega arith)
+
+  text-room : 33 + (k + 2) * (15 + 2 * columnLength m b) ≤ 102400
+  text-room =
+      let c = columnLength m b in
+      let (all, one) = small in
+      let two : k * (2 * c) ≡ 2 * (k * c) = sym (mul-assoc k 2 c) ∙ ap (λ (x : ℕ). x * c) (mul-comm k 2) ∙ mul-assoc 2 k c in
+      let s = g .shape in
+      omega (arith, add-mul k 2 (15 + 2 * c), mul-add k 15 (2 * c), s .few, s .value .most)
+
+-- the shape that an outcome names
+abbrev pub Names : Shape → Outcome → Type 0
+Names x (outcome.Complete y) = y ≡ x
+Names x (outcome.Ambiguous y) = y ≡ x
+Names x (outcome.Contradicted y) = y ≡ x
+Names x (outcome.Refused f) = ⊥
+
+pub record Told (image s after bench benched : List ℕ) (j : Judgement) (shape : Shape) : Type 0 where
+  pub short : length image ≤ 16384
+  pub formed : Formed image shape (j .map)
+  pub judged : JudgesFormed shape (j .map) image s after bench benched (j .outcome)
+
+module _ (image s after bench benched : List ℕ) (x y : Shape) (map : Map) where
+  same-shape : (o : Outcome) → Names x o → Leaves y map image s after bench benched o → y ≡ x
+  same-shape (outcome.Complete z) e l = sym (l .parts .benches .0) ∙ e
+  same-shape (outcome.Contradicted z) e l = sym (l .parts .benches .0) ∙ e
+  same-shape (outcome.Ambiguous z) e l = sym (l .0) ∙ e
+  same-shape (outcome.Refused f) e l = absurd e
+
+module _ {image s after bench benched : List ℕ} where
+  pub told : (j : Judgement) (x : Shape) → JudgesImage image s after bench benched j → Names x (j .outcome) → Told image s after bench benched j x
+  told j x h names = by-order (Told image s after bench benched j x) 16384 (length image)
+      (λ l. absurd (rw (h .long l .outcome) at names))
+      (λ l. let (c, found) = h .contents l in go l c found (c .answer) refl)
+    where
+      go : (l : length image ≤ 16384) (c : Contents) → ContentsOf image c → (a : Read) → c .answer ≡ a → Told image s after bench benched j x
+      go l c found (read.Refused f) e = absurd (rw (h .bad l f (rw e at (found .told)) .outcome) at names)
+      go l c found (read.Shape m k b) e =
+          let y : Shape = record { m = m; k = k; b = b } in
+          let formed = formed-said c y found e in
+          let (same, judged) = h .formed l y (c .map) formed in
+          let q : y ≡ x = same-shape image s after bench benched x y (c .map) (j .outcome) names (judged .leaves) in
+          record { short = l; formed = rw (same, ← q) formed; judged = rw (same, ← q) judged }
+
+  module _ {j : Judgement} {shape : Shape} (t : Told image s after bench benched j shape) where
+    pub told-fits : (shape .m < 10000) × (shape .k < 10000) × (shape .b < 10000)
+    told-fits = let x = formed-good (t .formed) .shape in (omega (arith, x .value .most), omega (arith, x .few, x .value .most), omega (arith, x .short))
+
+    pub tellable : (room : ℕ) → 102400 ≤ room → j .outcome ≡ outcome.Complete shape → Tellable shape (j .map) after benched room
+    tellable room most e =
+        let g = formed-good (t .formed) in
+        let judged : JudgesFormed shape (j .map) image s after bench benched (outcome.Complete shape) = rw e at (t .judged) in
+        let (few, r) = passed-first (judged .told) in
+        let (long, q) = passed-first r in
+        let (spare, _) = passed-first q in
+        let p = judged .leaves .parts in
+        let size = p .read .size ∙ length-take-le (stripeOf shape) s (omega arith) in
+        let double = bench-size shape (j .map) _ _ _ (outcome.Complete shape) (p .benches) ∙ length-take-le (benchOf shape) bench (omega arith) in
+        record {
+          held = record { shape = g .shape; stripe = size; room = double; clear = not-stray g; few = omega arith };
+          long = whole (stripeOf shape) after size;
+          spare = whole (benchOf shape) benched double;
+          fits = omega (arith, text-room g (t .short) (omega arith));
+        }
+      where
+        whole : (n : ℕ) (x : List ℕ) → length (take n x) ≡ n → n ≤ length x
+        whole n x e = by-order (n ≤ length x) (length x) n (λ l. absurd (omega (arith, ap length (take-all n x (omega arith))))) (λ l. l)
+
+  pub reports-start : {x y t : List ℕ} {r : ℕ} (j : Judgement) → JudgesImage image s after bench benched j → Wrote x y 0 r t → r ≤ length y
+      → t ≡ textOf (j .outcome) (j .map) after benched → Reports image s after bench benched x y r
+  reports-start j h w l e = record { judgement = j; judged = h; within = l; text = w .text ∙ e; rest = w .rest }
+
+-- parts that begin the buffers, as they are lent
+module _ (shape : Shape) (map : Map) (s bench : List ℕ) (n c : ℕ) (e : n ≡ stripeOf shape) (d : c ≡ benchOf shape) where
+  u : n - 0 ≡ stripeOf shape
+  u = omega arith
+
+  v : c - 0 ≡ benchOf shape
+  v = omega arith
+
+  pub held-lent : Held (shape .m) (shape .k) (shape .b) map (take (stripeOf shape) s) (take (benchOf shape) bench)
+      → Held (shape .m) (shape .k) (shape .b) map (take (n - 0) (drop 0 s)) (take (c - 0) (drop 0 bench))
+  held-lent h = rw (u, v) h
+
+  pub text-lent : shapeLine (shape .m) (shape .k) (shape .b) ++ columnLines (shape .k + 2) (map .places) (shown (shape .m) (shape .b) (map .places) (take (n - 0) (drop 0 s)) (take (c - 0) (drop 0 bench))) ++ answerLine 0
+      ≡ completeText shape map s bench
+  text-lent = rw (u, v)

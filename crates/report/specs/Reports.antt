@@ -1,0 +1,48 @@
+-- The report of an image: the text that the program prints.
+--   completeText    the shape, a line for each column, and the answer 0
+--   refusedText     the shape and the answer only
+--   textOf          the text of each outcome, where the stripe and the bench hold what was judged
+--   Tellable        the columns can be shown, and the text has room
+--   Reports         the first r bytes of `out` are the text of what is judged of the image, and the rest of it stays
+use mathlib.Core.Path.{_≡_}
+use mathlib.Core.List.{List, _++_}
+use Prim.Native.Nat.{ℕ, _+_, _*_, _≤_}
+use lib.ListN.{length, take, drop}
+use Rattle.parity.specs.Shape.{columnLength}
+use Rattle.evenodd.specs.declared.maps.Map.{Map}
+use Rattle.evenodd.specs.Refusals.{numberOf}
+use Rattle.report.specs.declared.lines.Shape.{Shape}
+use Rattle.report.specs.declared.judging.Outcome.{Outcome}
+use Rattle.report.specs.declared.judging.Outcome.the-variants.{Complete, Ambiguous, Contradicted, Refused}
+use Rattle.report.specs.declared.judging.Judgement.{Judgement}
+use Rattle.report.specs.Shown.{shown, Held}
+use Rattle.report.specs.Lines.{shapeLine, columnLines, answerLine}
+use Rattle.report.specs.Judgements.{stripeOf, benchOf, JudgesImage}
+
+abbrev pub refusedText : Shape → ℕ → List ℕ
+refusedText shape n = shapeLine (shape .m) (shape .k) (shape .b) ++ answerLine n
+
+abbrev pub completeText : Shape → Map → List ℕ → List ℕ → List ℕ
+completeText shape map s bench =
+    shapeLine (shape .m) (shape .k) (shape .b)
+    ++ columnLines (shape .k + 2) (map .places) (shown (shape .m) (shape .b) (map .places) (take (stripeOf shape) s) (take (benchOf shape) bench))
+    ++ answerLine 0
+
+abbrev pub textOf : Outcome → Map → List ℕ → List ℕ → List ℕ
+textOf (Complete shape) map s bench = completeText shape map s bench
+textOf (Ambiguous shape) map s bench = refusedText shape 4
+textOf (Contradicted shape) map s bench = refusedText shape 5
+textOf (Refused f) map s bench = answerLine (numberOf f)
+
+pub record Tellable (shape : Shape) (map : Map) (s bench : List ℕ) (room : ℕ) : Type 0 where
+  pub held : Held (shape .m) (shape .k) (shape .b) map (take (stripeOf shape) s) (take (benchOf shape) bench)
+  pub long : stripeOf shape ≤ length s
+  pub spare : benchOf shape ≤ length bench
+  pub fits : 33 + (shape .k + 2) * (15 + 2 * columnLength (shape .m) (shape .b)) ≤ room
+
+pub record Reports (image s after bench benched before out : List ℕ) (r : ℕ) : Type 0 where
+  pub judgement : Judgement
+  pub judged : JudgesImage image s after bench benched judgement
+  pub within : r ≤ length out
+  pub text : take r out ≡ textOf (judgement .outcome) (judgement .map) after benched
+  pub rest : drop r out ≡ drop r before

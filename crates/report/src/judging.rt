@@ -1,0 +1,123 @@
+// Judging an image: reading it, restoring it, and saying what came of it.
+use crate::lines::Shape;
+use evenodd::Map;
+use evenodd::Refusal;
+use evenodd::Restored;
+use image::Read;
+ghost use mathlib.Core.Path.{_≡_};
+ghost use mathlib.Core.Bool.{not, cond};
+ghost use Prim.Native.Nat.{_≤_};
+ghost use lib.ListN.{length};
+ghost use Rattle.parity.specs.Shape.{stripeLength, benchLength};
+ghost use Rattle.parity.specs.Presence.{absences};
+ghost use Rattle.evenodd.specs.Maps.{absentBelow};
+ghost use Rattle.report.specs.Judgements.{JudgesParts, JudgesFormed, JudgesImage, Formed};
+
+// What came of an image: every column is there, in the stripe or in the bench; three or more are absent; those that are present contradict
+// each other; or the image is refused without a shape.
+pub enum Outcome {
+    Complete(Shape),
+    Ambiguous(Shape),
+    Contradicted(Shape),
+    Refused(Refusal),
+}
+
+// The outcome, and the columns that the image has: none where it is refused.
+pub struct Judgement {
+    pub outcome: Outcome,
+    pub map: Map,
+}
+
+// One for an absent column.
+fn absence(there: bool) -> usize
+    ensures { λ r. ⌜ (r ≡ cond (not there) 1 0) × (r ≤ 1) ⌝ }
+{
+    if there { 0 } else { 1 }
+}
+
+// How many of the first n columns are absent.
+fn count_absent(map: Map, n: usize) -> usize
+    ensures { λ r. ⌜ r ≡ absentBelow n (map .places) ⌝ }
+{
+    let mut absent = 0;
+    for t in 0..n {
+        absent += absence(map.is_present(t));
+    }
+    absent
+}
+
+// Reads a well-formed image into a stripe of its length, and restores into a bench of its length.
+fn judge_parts(image: &[u8], shape: Shape, map: Map, stripe: &mut [u8], bench: &mut [u8]) -> Outcome
+    requires { ⌜ Formed (now image) shape map × (absences (shape .k) (map .places) ≤ 2) × (length (now stripe) ≡ stripeLength (shape .m) (shape .k) (shape .b)) × (length (now bench) ≡ benchLength (shape .m) (shape .b)) ⌝ }
+    ensures { λ r. ⌜ JudgesParts shape map (now (image .entry)) (now (stripe .entry)) (now (stripe .exit)) (now (bench .entry)) (now (bench .exit)) r ⌝ }
+{
+    image::read(image, stripe);
+    match evenodd::restore(shape.m, shape.k, shape.b, map, stripe, bench) {
+        Restored::Columns {
+            count: _,
+            first: _,
+            second: _,
+        } => Outcome::Complete(shape),
+        Restored::Refused(_) => Outcome::Contradicted(shape),
+    }
+}
+
+// Judges a well-formed image, in parts of the stripe and of the bench of the lengths that its shape asks for.
+fn judge_formed(
+    image: &[u8],
+    shape: Shape,
+    map: Map,
+    stripe: &mut [u8],
+    bench: &mut [u8],
+) -> Outcome
+    requires { ⌜ Formed (now image) shape map ⌝ }
+    ensures { λ r. ⌜ JudgesFormed shape map (now (image .entry)) (now (stripe .entry)) (now (stripe .exit)) (now (bench .entry)) (now (bench .exit)) r ⌝ }
+{
+    let columns = shape.k + 2;
+    if 2 < count_absent(map, columns) {
+        return Outcome::Ambiguous(shape);
+    }
+    let column = (shape.m - 1) * shape.b;
+    let size = columns * column;
+    let double = 2 * column;
+    if stripe.len() < size {
+        return Outcome::Refused(Refusal::StripeLength);
+    }
+    if bench.len() < double {
+        return Outcome::Refused(Refusal::BenchLength);
+    }
+    judge_parts(
+        image,
+        shape,
+        map,
+        &mut stripe[0..size],
+        &mut bench[0..double],
+    )
+}
+
+// Reads, restores and judges one image. An image of more than 16,384 bytes is refused whatever it holds. Where three or more columns are absent
+// the contents tell it, and no byte that was lent is written.
+pub fn judge_image(image: &[u8], stripe: &mut [u8], bench: &mut [u8]) -> Judgement
+    ensures { λ r. ⌜ JudgesImage (now (image .entry)) (now (stripe .entry)) (now (stripe .exit)) (now (bench .entry)) (now (bench .exit)) r ⌝ }
+{
+    if 16384 < image.len() {
+        let map = Map::new();
+        return Judgement {
+            outcome: Outcome::Refused(Refusal::TooLong),
+            map,
+        };
+    }
+    let found = image::contents(image);
+    let map = found.map;
+    let answer = found.answer;
+    match answer {
+        Read::Shape { m, k, b } => {
+            let outcome = judge_formed(image, Shape { m, k, b }, map, stripe, bench);
+            Judgement { outcome, map }
+        }
+        Read::Refused(f) => Judgement {
+            outcome: Outcome::Refused(f),
+            map,
+        },
+    }
+}

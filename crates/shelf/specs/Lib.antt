@@ -1,0 +1,2 @@
+-- What the program's reading promises.
+pub mod Reading

@@ -1,0 +1,2 @@
+-- Laws of written text.
+pub mod Writing
