@@ -1,0 +1,37 @@
+/* What the parts of the benchmark share. */
+#ifndef CONTEST_H
+#define CONTEST_H
+#include <stddef.h>
+#include <stdint.h>
+
+/* The code of plain.c and registers.c. A stripe is k data columns, H and D, each of m-1 cells of b bytes. */
+void plain_encode(size_t m, size_t k, size_t b, uint8_t *stripe);
+void plain_check(size_t m, size_t k, size_t b, const uint8_t *stripe, size_t *rows, size_t *diagonals);
+void plain_restore(size_t m, size_t k, size_t b, size_t u, size_t v, const uint8_t *stripe, uint8_t *bench);
+void registers_encode(size_t m, size_t k, size_t b, uint8_t *stripe);
+void registers_check(size_t m, size_t k, size_t b, const uint8_t *stripe, size_t *rows, size_t *diagonals);
+
+enum op { ENCODE, CHECK, ONE, TWO, MEND, OPS };
+
+/* A shape with what follows from it. Columns lie `col` bytes apart in pool PACKED, as the library wants them, and `pitch` bytes apart
+   in pool PADDED, a multiple of 64, as ISA-L wants them. A slot of either is k+2 columns of a stripe and two of a bench. */
+struct shape {
+    size_t m, k, b, col, pitch;
+    size_t u, v, w; /* columns lost: u and v of TWO, w of ONE; w is the wrong one of MEND */
+};
+enum pool { PACKED, PADDED, POOLS };
+
+typedef void work(const struct shape *, uint8_t *slot);
+struct rival {
+    const char *name;
+    enum pool pool;
+    work *run[OPS]; /* null where the contestant has no such operation */
+};
+
+/* rivals.c: codes of others. `rivals_prepare` makes their tables for a shape and clears the operations that they lack there;
+   `rivals_check` compares what they compute with `stripe`, encoded by plain.c, and gives the name of one that is wrong, or null. */
+enum { PQ_SSE, PQ, RS_SSE, RS, EVENODD, BLAUM_ROTH, OTHERS };
+extern struct rival others[OTHERS];
+void rivals_prepare(const struct shape *);
+const char *rivals_check(const struct shape *, const uint8_t *stripe, uint8_t *packed, uint8_t *padded);
+#endif
