@@ -23,7 +23,7 @@ use Rattle.parity.specs.Xor.{_⊕_}
 use Rattle.parity.specs.Sum.{sum}
 use Rattle.parity.specs.Equations.{Lane, cell, back, H, S, D, amountH, amountD, Holds}
 use Rattle.parity.specs.Candidate.{candidate}
-use Rattle.parity.proofs.Xor.{⊕-comm, ⊕-self, ⊕-zero, ⊕-cancel, xor, by-sum}
+use Rattle.parity.proofs.Xor.{⊕-comm, ⊕-self, ⊕-cancel, xor, by-sum}
 use Rattle.parity.proofs.Sum.{sum-add, sum-one}
 use Rattle.parity.proofs.Cells.{diagonal, S-diagonal, cell-real, cell-below, cell-same, H-same, D-same, holds-same}
 

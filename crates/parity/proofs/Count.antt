@@ -16,8 +16,6 @@ use Prim.Native.Nat.{ℕ, zero, suc, _≤_, _<_}
 use native.Mathlib.Nat.{le-step, lt-suc-self, eq-or-lt-of-le, le-of-suc-le-suc, not-suc-le-zero}
 use native.Mathlib.Decide.{decLt, ℕ-discrete}
 use native.Mathlib.Omega.{arith}
-use lib.Dec.{eqb}
-use borrow.Author.Tests.{eq-eqb, ne-eqb}
 use Rattle.parity.specs.Sum.{count, some}
 
 pub count-cong : (n : ℕ) {f g : ℕ → Bool} → ((t : ℕ) → t < n → f t ≡ g t) → count n f ≡ count n g

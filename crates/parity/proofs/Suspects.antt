@@ -4,7 +4,6 @@
 --   candidate-D-h, candidate-D-d   those of the candidate for column D: the rows break as they did, the diagonals no more
 --   one-suspect                    in a lane that breaks at most one column's candidate obeys the equations
 use mathlib.Core.Path.{_≡_, sym, ap, ap₂, _∙_}
-use mathlib.Core.Logic.{_≢_}
 use Prim.Native.Nat.{ℕ, _+_, _-_, _≤_, _<_}
 use native.Mathlib.Nat.{le-refl}
 use native.Mathlib.Decide.{ℕ-discrete, decLt}
