@@ -1,4 +1,5 @@
 pub mod Lines
+pub mod Places
 pub mod Equations
 pub mod Cells
 pub mod Seeds

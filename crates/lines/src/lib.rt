@@ -1,13 +1,14 @@
 // Lines of cells in a stripe, and their sums. A row goes straight across the columns (slant 0), a diagonal one row up from column to
 // column (slant 1); from row 0 it goes on to row m - 1, which is imaginary and zero.
 ghost use mathlib.Core.Path.{_≡_};
-ghost use Prim.Native.Nat.{ℕ, _+_, _*_, _≤_, _<_};
+ghost use Prim.Native.Nat.{_+_, _*_, _-_, _≤_, _<_};
 ghost use lib.ListN.{length, getD};
 ghost use Rattle.parity.specs.Xor.{_⊕_};
 ghost use Rattle.parity.specs.Equations.{back};
 ghost use Rattle.parity.specs.Stripe.{lane};
 ghost use Rattle.cells.specs.Runs.{Added, Put};
 ghost use Rattle.lines.specs.Lines.{real, span, seedOf, Sized, Crosses};
+ghost use Rattle.lines.specs.Places.{blank, total, Within, Listed};
 
 // The rows of a column, counted with the imaginary one, the bytes of a cell, and those of a column.
 pub struct Grid {
@@ -141,4 +142,70 @@ pub fn group_end(t: usize, t1: usize) -> usize
         return t + 8;
     }
     t1
+}
+
+// Puts the place of the cell in row r of column t after the first n places of `at`, unless it is imaginary. How many there are then.
+pub fn add_place(at: &mut [usize], n: usize, g: Grid, t: usize, r: usize) -> usize
+    requires { ⌜ (n < length (now at)) × (t < 129) × Sized (g .m) (g .b) (g .column) ⌝ }
+    ensures { λ x. ⌜ Listed (g .b) (t * g .column + g .column) n x 1 (now (at .entry)) (now (at .exit)) (λ s l. real (g .m) (lane (g .m) (g .b) s l) r t) ⌝ }
+{
+    let m = g.m;
+    if r < m - 1 {
+        let c = g.column;
+        let b = g.b;
+        at[n] = t * c + r * b;
+        return n + 1;
+    }
+    n
+}
+
+// The same, unless t is u or v.
+fn add_other(at: &mut [usize], n: usize, g: Grid, t: usize, r: usize, u: usize, v: usize) -> usize
+    requires { ⌜ (n < length (now at)) × (t < 129) × Sized (g .m) (g .b) (g .column) ⌝ }
+    ensures { λ x. ⌜ Listed (g .b) (t * g .column + g .column) n x 1 (now (at .entry)) (now (at .exit)) (λ s l. real (g .m) (blank u v (lane (g .m) (g .b) s l)) r t) ⌝ }
+{
+    if t == u {
+        return n;
+    }
+    if t == v {
+        return n;
+    }
+    add_place(at, n, g, t, r)
+}
+
+// Puts the places of the cells of line i, in the columns from t0 up to t1 but u and v, after the first n places of `at`. How many there
+// are then.
+pub fn add_places(
+    at: &mut [usize],
+    n: usize,
+    g: Grid,
+    slant: usize,
+    i: usize,
+    t0: usize,
+    t1: usize,
+    u: usize,
+    v: usize,
+) -> usize
+    requires { ⌜ (n + (t1 - t0) ≤ length (now at)) × Sized (g .m) (g .b) (g .column) × Crosses (g .m) (g .column) (t1 * g .column) slant i t0 t1 ⌝ }
+    ensures { λ x. ⌜ Listed (g .b) (t1 * g .column) n x (t1 - t0) (now (at .entry)) (now (at .exit)) (λ s l. span (g .m) (blank u v (lane (g .m) (g .b) s l)) slant i t0 t1) ⌝ }
+{
+    let m = g.m;
+    let mut x = n;
+    let mut r = row_above(m, i, slant * t0);
+    for t in t0..t1 {
+        x = add_other(at, x, g, t, r, u, v);
+        r = row_above(m, r, slant);
+    }
+    x
+}
+
+// Adds the lanes from j on of the cells of s at those places to acc.
+pub fn add_cells(acc: &mut [u8], s: &[u8], at: &[usize], j: usize)
+    requires { ⌜ Within (now at) (length (now at)) (j + length (now acc)) (length (now s)) ⌝ }
+    ensures { λ _. ⌜ Added (now (acc .entry)) (now (acc .exit)) (λ l. total (now (at .entry)) (length (now (at .entry))) (now (s .entry)) (j + l)) ⌝ }
+{
+    for x in 0..at.len() {
+        let from = at[x] + j;
+        cells::xor_into(acc, &s[from..from + acc.len()]);
+    }
 }
