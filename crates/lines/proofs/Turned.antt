@@ -1,10 +1,12 @@
 -- A column turned by some rows, added in two runs: the rows from `turn` on get those from row 0 on, and the rows below turn - 1 get those
 -- from row m - turn on. Row turn - 1 gets the imaginary row m - 1, that is nothing.
---   turned-runs      two such runs add the turned column
+--   turned-runs, turned-run   two such runs add the turned column, and one does where it is turned by at most one row
+--   first-run, second-run     where a run that begins in the column ends with it
+--   turned-line               the row that a cell gets, as the line that goes through it has it
 use mathlib.Core.Path.{_≡_, sym, ap, _∙_}
 use mathlib.Core.List.{List}
-use Prim.Native.Nat.{ℕ, _+_, _-_, _*_, _≤_, _<_}
-use native.Mathlib.Nat.{mul-le-mul-right}
+use Prim.Native.Nat.{ℕ, _+_, _-_, _*_, _%_, _≤_, _<_}
+use native.Mathlib.Nat.{mul-le-mul-right, mod-add-mod, add-mod-right}
 use native.Mathlib.Omega.{arith}
 use lib.ListN.{getD}
 use Rattle.parity.specs.Xor.{_⊕_}
@@ -13,9 +15,10 @@ use Rattle.parity.specs.Stripe.{byte, lane}
 use Rattle.parity.proofs.Xor.{⊕-zero}
 use Rattle.cells.specs.Runs.{Put}
 use Rattle.cells.proofs.Parts.{parts-end, by-order}
+use Rattle.cells.proofs.Puts.{put-none, put-count}
 use Rattle.lines.specs.Lines.{real, Sized}
 use Rattle.lines.specs.Rows.{Lined}
-use Rattle.lines.proofs.Lines.{up-around, up-straight, real-in, real-out}
+use Rattle.lines.proofs.Lines.{up-around, up-straight, real-in, real-out, column-is}
 
 module _ {m b c : ℕ} (z : Sized m b c) (at turn t : ℕ) (inside : turn < m) (w u v s : List ℕ)
     (p : Put w u (at + turn * b) ((m - 1 - turn) * b) (λ l. getD w (at + turn * b + l) 0 ⊕ getD s (t * c + l) 0))
@@ -80,3 +83,42 @@ module _ {m b c : ℕ} (z : Sized m b c) (at turn t : ℕ) (inside : turn < m) (
         before = λ x h. q .before x h ∙ p .before x (omega arith);
         after = λ x h. q .after x (omega arith) ∙ p .after x (omega arith);
       }
+
+module _ {m b c : ℕ} (z : Sized m b c) (turn : ℕ) where
+  pub first-run : turn < m → turn * b + (m - 1 - turn) * b ≡ c
+  first-run h =
+      let x : turn + (m - 1 - turn) ≡ m - 1 = omega arith in
+      let y : turn * b + (m - 1 - turn) * b ≡ (turn + (m - 1 - turn)) * b = omega arith in
+      y ∙ ap (λ (n : ℕ). n * b) x ∙ sym (column-is m b c z)
+
+  pub second-run : 1 ≤ turn → turn ≤ m → (m - turn) * b + (turn - 1) * b ≡ c
+  second-run h k =
+      let x : m - turn + (turn - 1) ≡ m - 1 = omega arith in
+      let y : (m - turn) * b + (turn - 1) * b ≡ (m - turn + (turn - 1)) * b = omega arith in
+      y ∙ ap (λ (n : ℕ). n * b) x ∙ sym (column-is m b c z)
+
+  pub turned-run : turn ≤ 1 → turn < m → (at t : ℕ) (w u s : List ℕ)
+      → Put w u (at + turn * b) ((m - 1 - turn) * b) (λ l. getD w (at + turn * b + l) 0 ⊕ getD s (t * c + l) 0)
+      → Lined (m - 1) b at w u (λ r l. getD w (at + (r * b + l)) 0 ⊕ real m (lane m b s l) (back m r turn) t)
+  turned-run few h at t w u s p =
+      let x : turn - 1 ≡ 0 = omega arith in
+      let y : 0 ≡ (turn - 1) * b = (let n : 0 ≡ 0 * b = omega arith in n ∙ ap (λ (n : ℕ). n * b) (sym x)) in
+      turned-runs z at turn t h w u u s p (put-count (put-none u at _) y)
+
+module _ (m r st shift : ℕ) (h : st < m) (k : shift < m) where
+  turned-low : st < shift → back m ((r + shift) % m) st ≡ back m r (st + m - shift)
+  unfolding back
+  turned-low below =
+      let e : r + shift + (m - st) ≡ r + (m - (st + m - shift)) + m = omega arith in
+      mod-add-mod (r + shift) m (m - st) ∙ ap (λ (x : ℕ). x % m) e ∙ add-mod-right (r + (m - (st + m - shift))) m
+
+  turned-high : shift ≤ st → back m ((r + shift) % m) st ≡ back m r (st - shift)
+  unfolding back
+  turned-high above =
+      let e : r + shift + (m - st) ≡ r + (m - (st - shift)) = omega arith in
+      mod-add-mod (r + shift) m (m - st) ∙ ap (λ (x : ℕ). x % m) e
+
+  pub turned-line : back m ((r + shift) % m) st ≡ back m r (back m st shift)
+  turned-line = by-order (back m ((r + shift) % m) st ≡ back m r (back m st shift)) st shift
+      (λ below. turned-low below ∙ ap (back m r) (up-around m shift st below (omega arith)))
+      (λ above. turned-high above ∙ ap (back m r) (up-straight m shift st above h))
