@@ -43,7 +43,7 @@ pub cell-span : (m : ℕ) (a : Lane) (i t : ℕ) {y : ℕ} → i < m → y ≡ t
 cell-span m a i t {y} h e =
     ap (span m a 0 i t) e ∙ sym (span-more m a 0 i t t) ∙ ap₂ _⊕_ (span-none m a 0 i t) (ap (λ (r : ℕ). real m a r t) (back-row m i t h)) ∙ zero-⊕ (real m a i t)
 
-cells-span : (m : ℕ) (a : Lane) (i k : ℕ) → i < m → span m a 0 i k (k + 2) ≡ real m a i k ⊕ real m a i (k + 1)
+pub cells-span : (m : ℕ) (a : Lane) (i k : ℕ) → i < m → span m a 0 i k (k + 2) ≡ real m a i k ⊕ real m a i (k + 1)
 cells-span m a i k h =
     let e : k + 2 ≡ k + 1 + 1 = omega arith in
     ap (span m a 0 i k) e ∙ sym (span-more m a 0 i k (k + 1)) ∙ ap₂ _⊕_ (cell-span m a i k h refl) (ap (λ (r : ℕ). real m a r (k + 1)) (back-row m i (k + 1) h))

@@ -15,10 +15,12 @@ use Rattle.parity.specs.Sum.{sum}
 use Rattle.parity.specs.Shape.{columnLength}
 use Rattle.parity.specs.Equations.{back, S}
 use Rattle.parity.specs.Stripe.{lane}
-use Rattle.parity.proofs.Xor.{⊕-assoc}
+use Rattle.parity.proofs.Xor.{⊕-assoc, xor}
 use Rattle.cells.specs.Runs.{Added, Put}
 use Rattle.cells.proofs.Parts.{part}
 use Rattle.lines.specs.Lines.{real, span}
+use Rattle.lines.specs.Places.{blank}
+use Rattle.lines.proofs.Places.{blank-two}
 use Rattle.lines.proofs.Lines.{up-straight, real-in, real-out}
 use Rattle.lines.proofs.Valid.{real-same}
 use Rattle.fill.specs.Fill.{Lined}
@@ -146,21 +148,30 @@ module _ (m k b : ℕ) {c : ℕ} (s w : List ℕ) (ready : Ready m k b c (length
   -- ---- two data columns
 
   module _ (u v : ℕ) (order : u < v) (top : v < k) where
-    pub mixes : m % 2 ≡ 1 → {x x₁ w₁ w₂ w₃ w₄ w₅ : List ℕ} → length x ≡ b → Put x x₁ 0 (length x) (parities m b s k) → Lined (m - 1) b 0 w w₁ (Over m b s (part s 0 0) 0 k (k + 1))
-        → Lined (m - 1) b c w₁ w₂ (Over m b s x₁ v (k + 1) (k + 2)) → BothSwept m b s v w₂ w₃ 0 u → BothSwept m b s v w₃ w₄ (u + 1) v → BothSwept m b s v w₄ w₅ (v + 1) k
-        → Mixes m k b u v s w w₅
-    mixes odd {x₁ = x₁} size p q o e f g =
-        let bench = halves-added m b (halves-added m b (halves-added m b (second-set m b (ready .sized .column) (first-set m b (bench-now m b w whole) q) o) e) f) g in record {
+    -- a line over the data columns but two, in its three parts
+    parts : (e i z l : ℕ) → z ⊕ span m (blank u v (lane m b s l)) e i 0 k
+        ≡ z ⊕ span m (lane m b s l) e i 0 u ⊕ span m (lane m b s l) e i (u + 1) v ⊕ span m (lane m b s l) e i (v + 1) k
+    parts e i z l = ap (λ (x : ℕ). z ⊕ x) (blank-two m u v (lane m b s l) order e i k top) ∙ apart z _ _ _
+      where
+        apart : (z p q r : ℕ) → z ⊕ (p ⊕ q ⊕ r) ≡ z ⊕ p ⊕ q ⊕ r
+        apart z p q r = simp xor
+
+    pub mixes : m % 2 ≡ 1 → {x x₁ w₁ w₂ w₃ : List ℕ} → length x ≡ b → Put x x₁ 0 (length x) (parities m b s k) → Lined (m - 1) b 0 w w₁ (Over m b s (part s 0 0) 0 k (k + 1))
+        → Lined (m - 1) b c w₁ w₂ (Over m b s x₁ v (k + 1) (k + 2)) → BothSwept m b u v s v w₂ w₃ 0 k → Mixes m k b u v s w w₃
+    mixes odd {x₁ = x₁} size p q o e =
+        let bench = halves-added m b (second-set m b (ready .sized .column) (first-set m b (bench-now m b w whole) q) o) e in record {
           size = bench .size ∙ sym whole;
           mixed = λ r valid same. record {
             last = λ l hl. real-out m (lane m b r l) (m - 1) u (omega arith);
             first = λ i l hi hl.
                 bench .first i l hi hl
+                ∙ parts 0 i (Over m b s (part s 0 0) 0 k (k + 1) i l) l
                 ∙ ap (λ (z : ℕ). z ⊕ span m (lane m b s l) 0 i 0 u ⊕ span m (lane m b s l) 0 i (u + 1) v ⊕ span m (lane m b s l) 0 i (v + 1) k)
                 (no-seed s l (ap (λ (j : ℕ). span m (lane m b s l) 0 j k (k + 1)) (whole-line (omega arith))))
                 ∙ mixed-rows m k (ready .sized .big) (ready .few) (lane m b s l) (lane m b r l) (valid .lanes l hl) u v order top (λ x t hx ht. same l x t hl hx ht) i hi;
             second = λ i l hi hl.
                 bench .second i l hi hl
+                ∙ parts 1 ((i + v) % m) (Over m b s x₁ v (k + 1) (k + 2) i l) l
                 ∙ mixed-diagonals m k (ready .sized .big) (ready .few) (lane m b s l) (lane m b r l) (valid .lanes l hl) u v order top (λ x t hx ht. same l x t hl hx ht) (getD x₁ l 0)
                 (let z : l ≡ 0 + l = omega arith in
                 ap (λ (j : ℕ). getD x₁ j 0) z ∙ p .inside l (omega arith)

@@ -8,47 +8,12 @@ ghost use Rattle.parity.specs.Xor.{_⊕_};
 ghost use Rattle.parity.specs.Sum.{sum};
 ghost use Rattle.parity.specs.Equations.{back};
 ghost use Rattle.parity.specs.Stripe.{lane};
-ghost use Rattle.cells.specs.Runs.{Added, Put};
+ghost use Rattle.cells.specs.Runs.{Put};
 ghost use Rattle.lines.specs.Lines.{real, span, Sized, Crosses};
 ghost use Rattle.fill.specs.Fill.{Lined};
 ghost use Rattle.walk.specs.Walk.{Reaches};
 ghost use Rattle.columns.specs.Columns.{Ready, OneRestored, TwoRestored};
 ghost use Rattle.columns.specs.Sums.{around, Mixes};
-
-// Of the `rows` cells from `at` on each cell r becomes the cell seed, of which an empty one is zero, plus line r + shift modulo m over
-// the columns from t0 up to t1.
-fn set_rows(
-    w: &mut [u8],
-    at: usize,
-    seed: &[u8],
-    s: &[u8],
-    g: Grid,
-    slant: usize,
-    shift: usize,
-    rows: usize,
-    t0: usize,
-    t1: usize,
-)
-    requires { ⌜ (0 < length (now seed) → g .b ≤ length (now seed)) × (at + rows * g .b ≤ length (now w)) × (rows < g .m) × (shift < g .m) × Sized (g .m) (g .b) (g .column) × Crosses (g .m) (g .column) (length (now s)) slant 0 t0 t1 ⌝ }
-    ensures { λ _. ⌜ Lined rows (g .b) at (now (w .entry)) (now (w .exit)) (λ r l. getD (now (seed .entry)) l 0 ⊕ span (g .m) (lane (g .m) (g .b) (now (s .entry)) l) slant ((r + shift) % g .m) t0 t1) ⌝ }
-{
-    let m = g.m;
-    let b = g.b;
-    for r in 0..rows {
-        fill::fill_cell(
-            w,
-            seed,
-            true,
-            s,
-            g,
-            slant,
-            (r + shift) % m,
-            t0,
-            t1,
-            at + r * b,
-        );
-    }
-}
 
 // Where the first group of at most eight of x columns ends.
 fn first_end(x: usize) -> usize
@@ -78,7 +43,7 @@ fn set_lines(
     ensures { λ _. ⌜ Lined rows (g .b) at (now (w .entry)) (now (w .exit)) (λ r l. getD (now (seed .entry)) l 0 ⊕ around (g .m) (lane (g .m) (g .b) (now (s .entry)) l) slant ((r + shift) % g .m) x y n) ⌝ }
 {
     let e = first_end(x);
-    set_rows(w, at, seed, s, g, slant, shift, rows, 0, e);
+    seeded::set_rows(w, at, seed, s, g, slant, shift, rows, 0, e);
     fill::fill_lines(w, at, s, g, slant, shift, rows, e, x);
     fill::fill_lines(w, at, s, g, slant, shift, rows, y, n);
 }
@@ -99,7 +64,7 @@ fn set_diagonals(
     ensures { λ _. ⌜ Lined rows (g .b) at (now (w .entry)) (now (w .exit)) (λ r l. getD (now (seed .entry)) l 0 ⊕ around (g .m) (lane (g .m) (g .b) (now (s .entry)) l) 1 ((r + shift) % g .m) u (u + 1) k ⊕ span (g .m) (lane (g .m) (g .b) (now (s .entry)) l) 0 ((r + shift) % g .m) (k + 1) (k + 2)) ⌝ }
 {
     set_lines(w, at, seed, s, g, 1, shift, rows, u, u + 1, k);
-    fill::fill_rows(w, at, s, g, 0, shift, rows, k + 1, k + 2);
+    fill::fill_lines(w, at, s, g, 0, shift, rows, k + 1, k + 2);
 }
 
 // The first half of w becomes column u, a data column or H: each row over the other columns of these.
@@ -135,24 +100,19 @@ pub fn restore_one(s: &[u8], w: &mut [u8], g: Grid, k: usize, u: usize)
     }
 }
 
-// Adds all cells of columns H and D to x.
-fn add_parities(x: &mut [u8], s: &[u8], g: Grid, k: usize)
-    requires { ⌜ (length (now x) ≡ g .b) × Sized (g .m) (g .b) (g .column) × (k ≤ g .m) × (length (now s) ≡ (k + 2) * g .column) ⌝ }
-    ensures { λ _. ⌜ Added (now (x .entry)) (now (x .exit)) (λ l. sum (g .m - 1) (λ i. span (g .m) (lane (g .m) (g .b) (now (s .entry)) l) 0 i k (k + 2))) ⌝ }
-{
-    let m = g.m;
-    for i in 0..m - 1 {
-        lines::add_span(x, s, g, 0, i, k, k + 2, 0);
-    }
-}
-
-// x becomes the sum of all cells of columns H and D, which is S.
+// x becomes the sum of all cells of columns H and D, which is S. A column is taken for a row: its cells stand one after another.
 fn total(x: &mut [u8], s: &[u8], g: Grid, k: usize)
     requires { ⌜ (length (now x) ≡ g .b) × Sized (g .m) (g .b) (g .column) × (k ≤ g .m) × (length (now s) ≡ (k + 2) * g .column) ⌝ }
     ensures { λ _. ⌜ Put (now (x .entry)) (now (x .exit)) 0 (length (now (x .entry))) (λ l. sum (g .m - 1) (λ i. span (g .m) (lane (g .m) (g .b) (now (s .entry)) l) 0 i k (k + 2))) ⌝ }
 {
-    cells::zero(x);
-    add_parities(x, s, g, k);
+    let b = g.b;
+    let c = g.column;
+    let cells = g.m - 1;
+    let row = Grid { m: 2, b, column: b };
+    let h = k * c;
+    let d = h + c;
+    fill::fill_cell(x, &s[0..0], true, &s[h..h + c], row, 0, 0, 0, cells, 0);
+    fill::fill_cell(x, &s[0..0], false, &s[d..d + c], row, 0, 0, 0, cells, 0);
 }
 
 // The halves of w become data columns u and v, mixed: the first what is left of H, the second what is left of S plus D, row r of it from
@@ -164,11 +124,9 @@ fn mix(s: &[u8], w: &mut [u8], x: &mut [u8], g: Grid, k: usize, u: usize, v: usi
     let rows = g.m - 1;
     let second = g.column;
     total(x, s, g, k);
-    set_rows(w, 0, &s[0..0], s, g, 0, 0, rows, k, k + 1);
-    set_rows(w, second, x, s, g, 0, v, rows, k + 1, k + 2);
-    fill::fill_both(w, s, g, v, 0, u);
-    fill::fill_both(w, s, g, v, u + 1, v);
-    fill::fill_both(w, s, g, v, v + 1, k);
+    seeded::set_rows(w, 0, &s[0..0], s, g, 0, 0, rows, k, k + 1);
+    seeded::set_rows(w, second, x, s, g, 0, v, rows, k + 1, k + 2);
+    fill::fill_both(w, s, g, v, 0, k, u, v);
 }
 
 // Data columns u and v.
@@ -244,12 +202,34 @@ fn any_two(s: &[u8], w: &mut [u8], x: &mut [u8], g: Grid, k: usize, u: usize, v:
     }
 }
 
-// Columns u and v are absent: the halves of w become columns u and v of the valid stripe that agrees with s in all other columns.
-pub fn restore_two(s: &[u8], w: &mut [u8], g: Grid, k: usize, u: usize, v: usize)
+// Columns u and v, where a cell is short: with little room for S, since room is cleared before it is used.
+fn two_short(s: &[u8], w: &mut [u8], g: Grid, k: usize, u: usize, v: usize)
+    requires { ⌜ (g .b ≤ 512) × Ready (g .m) k (g .b) (g .column) (length (now s)) (length (now w)) × (g .m % 2 ≡ 1) × (u < v) × (v < k + 2) × (v < k → Reaches (g .m) (v - u)) ⌝ }
+    ensures { λ _. ⌜ TwoRestored (g .m) k (g .b) u v (now (s .entry)) (now (w .entry)) (now (w .exit)) ⌝ }
+{
+    let b = g.b;
+    let mut sum = [0u8; 512];
+    any_two(s, w, &mut sum[0..b], g, k, u, v);
+}
+
+// Columns u and v, with room for S.
+fn two_long(s: &[u8], w: &mut [u8], g: Grid, k: usize, u: usize, v: usize)
     requires { ⌜ Ready (g .m) k (g .b) (g .column) (length (now s)) (length (now w)) × (g .m % 2 ≡ 1) × (u < v) × (v < k + 2) × (v < k → Reaches (g .m) (v - u)) ⌝ }
     ensures { λ _. ⌜ TwoRestored (g .m) k (g .b) u v (now (s .entry)) (now (w .entry)) (now (w .exit)) ⌝ }
 {
     let b = g.b;
     let mut sum = [0u8; 4096];
     any_two(s, w, &mut sum[0..b], g, k, u, v);
+}
+
+// Columns u and v are absent: the halves of w become columns u and v of the valid stripe that agrees with s in all other columns.
+pub fn restore_two(s: &[u8], w: &mut [u8], g: Grid, k: usize, u: usize, v: usize)
+    requires { ⌜ Ready (g .m) k (g .b) (g .column) (length (now s)) (length (now w)) × (g .m % 2 ≡ 1) × (u < v) × (v < k + 2) × (v < k → Reaches (g .m) (v - u)) ⌝ }
+    ensures { λ _. ⌜ TwoRestored (g .m) k (g .b) u v (now (s .entry)) (now (w .entry)) (now (w .exit)) ⌝ }
+{
+    if g.b <= 512 {
+        two_short(s, w, g, k, u, v);
+    } else {
+        two_long(s, w, g, k, u, v);
+    }
 }

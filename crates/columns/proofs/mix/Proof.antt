@@ -30,7 +30,7 @@ set-rows-requires c κs =
     let z = c .before .before .before .before .before .before .before .before .before .before in
     let a = z .args in
     let y = z .pre .1 in
-    (seed-none (now (a .s)) (a .g .b), half-room (y .sized) (y .bench) .0, omega arith, omega arith, y .sized, row-crosses (y .sized) (y .few) (y .stripe) (omega arith) (omega arith) (omega arith))
+    (seed-none (now (a .s)) (a .g .b), half-room (y .sized) (y .bench) .0, omega (arith, y .sized .big), omega (arith, y .sized .big), y .sized, row-crosses (y .sized) (y .few) (y .stripe) (omega (arith, y .sized .big)) (omega arith) (omega arith))
 
 add-set-rows-2 : tie.Need-add-set-rows-2
 add-set-rows-2 c = search needs
@@ -44,7 +44,7 @@ set-rows-requires-2 c κs =
     let y = z .pre .1 in
     let x = c .before .before .before .before .before .before .before .before .before .total .ensures in
     let p = c .before .before .before .before .set-rows .ensures in
-    (λ h. omega arith, omega (arith, half-room (y .sized) (y .bench) .1), omega arith, omega arith, y .sized, row-crosses (y .sized) (y .few) (y .stripe) (omega arith) (omega arith) (omega arith))
+    (λ h. omega (arith, x .size, z .pre .0), omega (arith, p .size, half-room (y .sized) (y .bench) .1), omega (arith, y .sized .big), omega (arith, z .pre .4, y .few), y .sized, row-crosses (y .sized) (y .few) (y .stripe) (omega (arith, y .sized .big)) (omega arith) (omega arith))
 
 fill-both-requires : tie.Need-fill-both-requires
 fill-both-requires c κs =
@@ -52,34 +52,7 @@ fill-both-requires c κs =
     let y = z .pre .1 in
     let p = c .before .before .before .before .before .before .before .before .set-rows .ensures in
     let q = c .before .before .before .set-rows2 .ensures in
-    (omega arith, omega arith, y .sized, diagonal-crosses (y .sized) (y .few) (y .stripe) (omega arith) (omega arith) (omega arith))
-
-add-fill-both : tie.Need-add-fill-both
-add-fill-both c =
-    let p = c .before .before .before .before .before .before .before .before .before .before .before .before .before .before .before .before .before .before .before .before .before .before .before .pre in omega arith
-
-fill-both-requires-2 : tie.Need-fill-both-requires-2
-fill-both-requires-2 c κs =
-    let z = c .before .before .before .before .before .before .before .before .before .before .before .before .before .before .before .before .before .before .before .before .before .before .before in
-    let y = z .pre .1 in
-    let p = c .before .before .before .before .before .before .before .before .before .before .before .before .set-rows .ensures in
-    let q = c .before .before .before .before .before .before .before .set-rows2 .ensures in
-    let o = c .before .before .before .fill-both .ensures in
-    (omega arith, omega arith, y .sized, diagonal-crosses (y .sized) (y .few) (y .stripe) (omega arith) (omega arith) (omega arith))
-
-add-fill-both-2 : tie.Need-add-fill-both-2
-add-fill-both-2 c =
-    let p = c .before .before .before .before .before .before .before .before .before .before .before .before .before .before .before .before .before .before .before .before .before .before .before .before .before .before .before .pre in omega arith
-
-fill-both-requires-3 : tie.Need-fill-both-requires-3
-fill-both-requires-3 c κs =
-    let z = c .before .before .before .before .before .before .before .before .before .before .before .before .before .before .before .before .before .before .before .before .before .before .before .before .before .before .before in
-    let y = z .pre .1 in
-    let p = c .before .before .before .before .before .before .before .before .before .before .before .before .before .before .before .before .set-rows .ensures in
-    let q = c .before .before .before .before .before .before .before .before .before .before .before .set-rows2 .ensures in
-    let o = c .before .before .before .before .before .before .before .fill-both .ensures in
-    let n = c .before .before .before .fill-both2 .ensures in
-    (omega arith, omega arith, y .sized, diagonal-crosses (y .sized) (y .few) (y .stripe) (omega arith) (omega arith) (omega arith))
+    (omega (arith, p .size, q .size, y .bench), omega (arith, z .pre .4, y .few), y .sized, diagonal-crosses (y .sized) (y .few) (y .stripe) (omega (arith, y .sized .big)) (omega arith) (omega arith))
 
 same-length : tie.Need-same-length
 same-length c = search needs
@@ -89,9 +62,9 @@ same-length-2 c = search needs
 
 returns : tie.Need-returns
 returns c =
-    let z = c .before .before .before .before .before .before .before .before .before .before .before .before .before .before .before .before .before .before .before .before .before .before .before .before .before .before .before .before .before .before in
+    let z = c .before .before .before .before .before .before .before .before .before .before .before .before .before .before .before .before .before .before .before .before .before .before in
     let a = z .args in
-    mixes (a .g .m) (a .k) (a .g .b) (now (a .s)) (now (a .w)) (z .pre .1) (a .u) (a .v) (z .pre .3) (z .pre .4) (z .pre .2) (z .pre .0) (c .before .before .before .before .before .before .before .before .before .before .before .before .before .before .before .before .before .before .before .before .before .before .before .before .total .ensures) (c .before .before .before .before .before .before .before .before .before .before .before .before .before .before .before .before .before .before .before .set-rows .ensures) (c .before .before .before .before .before .before .before .before .before .before .before .before .before .before .set-rows2 .ensures) (c .before .before .before .before .before .before .before .before .before .before .fill-both .ensures) (c .before .before .before .before .before .before .fill-both2 .ensures) (c .before .before .fill-both3 .ensures)
+    mixes (a .g .m) (a .k) (a .g .b) (now (a .s)) (now (a .w)) (z .pre .1) (a .u) (a .v) (z .pre .3) (z .pre .4) (z .pre .2) (z .pre .0) (c .before .before .before .before .before .before .before .before .before .before .before .before .before .before .before .before .total .ensures) (c .before .before .before .before .before .before .before .before .before .before .before .set-rows .ensures) (c .before .before .before .before .before .before .set-rows2 .ensures) (c .before .before .fill-both .ensures)
 
 pub mix-spec : {M : Type 1} → statement M
 mix-spec =
@@ -108,10 +81,6 @@ mix-spec =
     add-set-rows-3
     set-rows-requires-2
     fill-both-requires
-    add-fill-both
-    fill-both-requires-2
-    add-fill-both-2
-    fill-both-requires-3
     same-length
     same-length-2
     returns)

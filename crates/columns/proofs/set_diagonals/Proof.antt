@@ -13,14 +13,14 @@ add-set-lines c = search needs
 set-lines-requires : tie.Need-set-lines-requires
 set-lines-requires c κs = search needs
 
-add-fill-rows : tie.Need-add-fill-rows
-add-fill-rows c = search needs
+add-fill-lines : tie.Need-add-fill-lines
+add-fill-lines c = search needs
 
-add-fill-rows-2 : tie.Need-add-fill-rows-2
-add-fill-rows-2 c = search needs
+add-fill-lines-2 : tie.Need-add-fill-lines-2
+add-fill-lines-2 c = search needs
 
-fill-rows-requires : tie.Need-fill-rows-requires
-fill-rows-requires c κs = search needs
+fill-lines-requires : tie.Need-fill-lines-requires
+fill-lines-requires c κs = search needs
 
 same-length : tie.Need-same-length
 same-length c = search needs
@@ -28,7 +28,7 @@ same-length c = search needs
 returns : tie.Need-returns
 returns c =
     let a = c .before .before .before .before .before .before .before .before .before .before .before .args in
-    lined-grown (a .rows) (a .g .b) (a .at) (lineAt (a .g .m) (a .g .b) (now (a .s)) 0 (a .shift) (a .k + 1) (a .k + 2)) (c .before .before .before .before .before .before .set-lines .ensures) (c .before .before .fill-rows .ensures)
+    lined-grown (a .rows) (a .g .b) (a .at) (lineAt (a .g .m) (a .g .b) (now (a .s)) 0 (a .shift) (a .k + 1) (a .k + 2)) (c .before .before .before .before .before .before .set-lines .ensures) (c .before .before .fill-lines .ensures)
 
 pub set-diagonals-spec : {M : Type 1} → statement M
 set-diagonals-spec =
@@ -36,8 +36,8 @@ set-diagonals-spec =
     (tie.spec
     add-set-lines
     set-lines-requires
-    add-fill-rows
-    add-fill-rows-2
-    fill-rows-requires
+    add-fill-lines
+    add-fill-lines-2
+    fill-lines-requires
     same-length
     returns)

@@ -12,7 +12,7 @@ use Rattle.lines.specs.Lines.{span}
 use Rattle.lines.specs.Places.{blank}
 use Rattle.lines.proofs.Lines.{crosses-line}
 use Rattle.lines.proofs.Rows.{Grown, lined-none, lined-count, grown-more}
-use Rattle.fill.proofs.Sweeps.{lineAt, line-lt, line-next}
+use Rattle.fill.proofs.Sweeps.{lineBut, line-lt, line-next}
 use borrow.Author.Needs.{needs}
 use native.Mathlib.Omega.{arith}
 use Rattle.fill.proofs.add_by_cells.Statement.{statement}
@@ -20,7 +20,7 @@ use Rattle.fill.proofs.add_by_cells.Tie as tie
 
 abbrev Inv-loop : tie.InvT-loop
 Inv-loop w₀ at s g slant shift rows t0 t1 u v m b i₀ r₀ w i r =
-    (r ≤ rows) × (i ≡ (r + shift) % g .m) × Grown r (g .b) at w₀ w (lineAt (g .m) (g .b) u v s slant shift t0 t1)
+    (r ≤ rows) × (i ≡ (r + shift) % g .m) × Grown r (g .b) at w₀ w (lineBut (g .m) (g .b) u v s slant shift t0 t1)
 
 abbrev μ-loop : tie.MeasureT-loop
 μ-loop w₀ at s g slant shift rows t0 t1 u v m b i₀ r₀ w i r = rows - r
@@ -68,7 +68,7 @@ loop-again c =
     let z = c .before .before .before .add-line in (
       omega arith,
       c .row-below .ensures ∙ ap (λ (x : ℕ). (x + 1) % a .g .m) (y .inv .1) ∙ line-next (a .g .m) (y .r) (a .shift),
-      grown-more (y .r) (a .g .b) (a .at) (now (a .w)) (y .w) (z .last .0) (lineAt (a .g .m) (a .g .b) (a .u) (a .v) (now (a .s)) (a .slant) (a .shift) (a .t0) (a .t1)) (y .inv .2) (put-same (z .ensures) (λ l h.
+      grown-more (y .r) (a .g .b) (a .at) (now (a .w)) (y .w) (z .last .0) (lineBut (a .g .m) (a .g .b) (a .u) (a .v) (now (a .s)) (a .slant) (a .shift) (a .t0) (a .t1)) (y .inv .2) (put-same (z .ensures) (λ l h.
           ap (λ (x : ℕ). getD (y .w) (a .at + y .r * a .g .b + l) 0 ⊕ span (a .g .m) (blank (a .u) (a .v) (lane (a .g .m) (a .g .b) (now (a .s)) l)) (a .slant) x (a .t0) (a .t1)) (y .inv .1))),
     )
 

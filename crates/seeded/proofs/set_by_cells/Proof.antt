@@ -1,4 +1,4 @@
--- `columns::set_rows` meets its contract. The invariant: the rows before r are set, the others as they were.
+-- `seeded::set_by_cells` meets its contract. The invariant: the rows before r are set, the others as they were.
 use mathlib.Core.Path.{refl, ap}
 use Prim.Native.Nat.{ℕ, _+_, _*_, _-_, _%_, _≤_}
 use native.Mathlib.Nat.{le-refl, mod-lt}
@@ -11,12 +11,12 @@ use Rattle.cells.proofs.Puts.{put-same}
 use Rattle.lines.specs.Lines.{span}
 use Rattle.lines.proofs.Lines.{crosses-line}
 use Rattle.lines.proofs.Seeds.{seed-fresh}
-use Rattle.fill.specs.Fill.{Lined}
-use Rattle.fill.proofs.Rows.{lined-none, lined-more, lined-count}
+use Rattle.lines.specs.Rows.{Lined}
+use Rattle.lines.proofs.Rows.{lined-none, lined-more, lined-count}
 use borrow.Author.Needs.{needs}
 use native.Mathlib.Omega.{arith}
-use Rattle.columns.proofs.set_rows.Statement.{statement}
-use Rattle.columns.proofs.set_rows.Tie as tie
+use Rattle.seeded.proofs.set_by_cells.Statement.{statement}
+use Rattle.seeded.proofs.set_by_cells.Tie as tie
 
 abbrev Inv-loop : tie.InvT-loop
 Inv-loop w₀ at seed s g slant shift rows t0 t1 m b r₀ w r =
@@ -73,8 +73,8 @@ same-length c = c .before .loop .inv .1 .size
 returns : tie.Need-returns Inv-loop μ-loop
 returns c = lined-count (c .before .loop .inv .1) (omega arith)
 
-pub set-rows-spec : {M : Type 1} → statement M
-set-rows-spec =
+pub set-by-cells-spec : {M : Type 1} → statement M
+set-by-cells-spec =
     tie.close
     (tie.spec
     Inv-loop
