@@ -1,16 +1,19 @@
-// The parity columns of a stripe, written in place: for each cell, for each block of its lanes, a sum over columns that is kept in
-// a small array and written once. The columns are taken in groups of eight; a group after the first adds to what the cells hold.
-// S stands in D's last cell until that cell is written itself.
+// The parity columns of a stripe, written in place. S is summed first, into D's last cell, where it stands until that cell is written
+// itself. Long cells: for each cell, for each block of its lanes, a sum over columns that is kept in a small array and written once; the
+// columns are taken in groups of eight, and a group after the first adds to what the cells hold. Short cells: S goes to every cell of D,
+// and whole columns are added one after another, to D in two runs.
 use lines::Grid;
 ghost use mathlib.Core.Path.{_≡_};
-ghost use mathlib.Core.Bool.{true, cond};
+ghost use mathlib.Core.Bool.{true, false, cond};
 ghost use Prim.Native.Nat.{_+_, _-_, _*_, _≤_, _<_};
-ghost use lib.ListN.{length};
+ghost use lib.ListN.{length, getD};
 ghost use Rattle.parity.specs.Xor.{_⊕_};
+ghost use Rattle.parity.specs.Equations.{back};
 ghost use Rattle.parity.specs.Stripe.{lane};
 ghost use Rattle.cells.specs.Runs.{Put};
-ghost use Rattle.lines.specs.Lines.{line, span, Sized};
+ghost use Rattle.lines.specs.Lines.{real, line, span, Sized};
 ghost use Rattle.lines.specs.Places.{total};
+ghost use Rattle.lines.specs.Rows.{Lined};
 ghost use Rattle.parities.specs.Encoded.{Encoded};
 ghost use Rattle.parities.specs.Sums.{held, Reads, Ready, Grown};
 
@@ -115,7 +118,8 @@ fn put_all(s: &mut [u8], seeded: bool, from: usize, b: usize, at: &[usize], to: 
     put_rest(s, seeded, from, b, at, to, j);
 }
 
-// The cell at `to` becomes line i, over the columns from t0 up to t1, plus the cell at `from` where the sum is seeded. No column is 129.
+// The cell at `to` becomes line i, over the columns from t0 up to t1, plus the cell at `from` where the sum is seeded. Column 129, which no
+// stripe has, stands for no column left out.
 fn put_cell(
     s: &mut [u8],
     seeded: bool,
@@ -198,6 +202,67 @@ fn put_sum(s: &mut [u8], g: Grid, k: usize, last: usize)
     }
 }
 
+// D, at d, gets column t added, turned by t rows: its rows from t on get those from row 0 on, and its rows below t - 1 get those from
+// row m - t on. Row t - 1 gets the imaginary row, that is nothing.
+fn add_turned(s: &mut [u8], g: Grid, t: usize, d: usize)
+    requires { ⌜ Sized (g .m) (g .b) (g .column) × (t < g .m) × (t * g .column + g .column ≤ d) × (d + g .column ≤ length (now s)) ⌝ }
+    ensures { λ _. ⌜ Lined (g .m - 1) (g .b) d (now (s .entry)) (now (s .exit)) (λ r l. getD (now (s .entry)) (d + (r * g .b + l)) 0 ⊕ real (g .m) (lane (g .m) (g .b) (now (s .entry)) l) (back (g .m) r t) t) ⌝ }
+{
+    let m = g.m;
+    let b = g.b;
+    let c = g.column;
+    cells::add_within(s, d + t * b, t * c, (m - 1 - t) * b);
+    if 1 < t {
+        cells::add_within(s, d, t * c + (m - t) * b, (t - 1) * b);
+    }
+}
+
+// H gets column t added, D the same turned by t rows.
+fn add_column(s: &mut [u8], g: Grid, k: usize, t: usize)
+    requires { ⌜ Sized (g .m) (g .b) (g .column) × (k ≤ g .m) × (t < k) × (length (now s) ≡ (k + 2) * g .column) ⌝ }
+    ensures { λ _. ⌜ Grown false (g .m) k (g .b) t (t + 1) (now (s .entry)) (now (s .exit)) 0 (g .m - 1) ⌝ }
+{
+    let c = g.column;
+    let h = k * c;
+    cells::add_within(s, h, t * c, c);
+    add_turned(s, g, t, h + c);
+}
+
+// The same with every data column.
+fn add_columns(s: &mut [u8], g: Grid, k: usize)
+    requires { ⌜ Sized (g .m) (g .b) (g .column) × (k ≤ g .m) × (length (now s) ≡ (k + 2) * g .column) ⌝ }
+    ensures { λ _. ⌜ Grown false (g .m) k (g .b) 0 k (now (s .entry)) (now (s .exit)) 0 (g .m - 1) ⌝ }
+{
+    for t in 0..k {
+        add_column(s, g, k, t);
+    }
+}
+
+// Every cell of D, at d, but the last gets the last one, at `last`, added.
+fn spread(s: &mut [u8], g: Grid, d: usize, last: usize)
+    requires { ⌜ Sized (g .m) (g .b) (g .column) × (last ≡ d + (g .m - 2) * g .b) × (last + g .b ≤ length (now s)) ⌝ }
+    ensures { λ _. ⌜ Lined (g .m - 2) (g .b) d (now (s .entry)) (now (s .exit)) (λ r l. getD (now (s .entry)) (d + (r * g .b + l)) 0 ⊕ getD (now (s .entry)) (last + l) 0) ⌝ }
+{
+    let b = g.b;
+    for i in 0..g.m - 2 {
+        cells::add_within(s, d + i * b, last, b);
+    }
+}
+
+// H becomes the sums of the rows, D its last cell plus those of the diagonals, a whole column at a time: for short cells.
+fn put_columns(s: &mut [u8], g: Grid, k: usize)
+    requires { ⌜ Sized (g .m) (g .b) (g .column) × (k ≤ g .m) × (length (now s) ≡ (k + 2) * g .column) ⌝ }
+    ensures { λ _. ⌜ Grown true (g .m) k (g .b) 0 k (now (s .entry)) (now (s .exit)) 0 (g .m - 1) ⌝ }
+{
+    let c = g.column;
+    let b = g.b;
+    let h = k * c;
+    let last = h + c + c - b;
+    cells::zero(&mut s[h..last]);
+    spread(s, g, h + c, last);
+    add_columns(s, g, k);
+}
+
 // Writes H and D.
 pub fn put_parity(s: &mut [u8], g: Grid, k: usize)
     requires { ⌜ Sized (g .m) (g .b) (g .column) × (1 ≤ k) × (k ≤ g .m) × (length (now s) ≡ (k + 2) * g .column) ⌝ }
@@ -206,5 +271,9 @@ pub fn put_parity(s: &mut [u8], g: Grid, k: usize)
     let c = g.column;
     let b = g.b;
     put_sum(s, g, k, k * c + c + c - b);
-    put_groups(s, g, k);
+    if b < 128 {
+        put_columns(s, g, k);
+    } else {
+        put_groups(s, g, k);
+    }
 }

@@ -1,4 +1,4 @@
--- `parities::put_parity` meets its contract: S is put into D's last cell, and then the groups make both columns.
+-- `parities::put_parity` meets its contract: S is put into D's last cell, and then both columns are made, in one of two ways.
 use denote.Ref.{now}
 use Rattle.lines.proofs.Cells.{cell-end}
 use Rattle.parities.proofs.Rows.{encoded}
@@ -24,9 +24,11 @@ sub-put-sum c =
 put-sum-requires : tie.Need-put-sum-requires
 put-sum-requires c κs =
     let a = c .before .before .args in
-    let p = c .before .before .pre in
     let inside = cell-end (a .g .m) (a .g .b) 0 (omega arith) in
-    (p .0, omega arith, omega arith, omega arith, omega arith)
+    (c .before .before .pre .0, omega arith, omega arith, omega arith, omega arith)
+
+put-columns-requires : tie.Need-put-columns-requires
+put-columns-requires c κs = search needs
 
 put-groups-requires : tie.Need-put-groups-requires
 put-groups-requires c κs = search needs
@@ -36,9 +38,20 @@ same-length c = search needs
 
 returns : tie.Need-returns
 returns c =
-    let a = c .before .before .before .before .before .before .before .before .before .args in
-    let p = c .before .before .before .before .before .before .before .before .before .pre in
-    let q = c .before .before .before .before .before .before .put-sum in
+    let a = c .before .before .before .before .before .before .before .before .before .before .args in
+    let p = c .before .before .before .before .before .before .before .before .before .before .pre in
+    let q = c .before .before .before .before .before .before .before .put-sum in
+    let r = c .before .before .put-columns in
+    encoded (a .g .m) (a .k) (a .g .b) (a .g .column) (now (a .s)) (q .last .0) (r .last .0) (p .0) (p .2) (q .ensures) (r .ensures)
+
+same-length-2 : tie.Need-same-length-2
+same-length-2 c = search needs
+
+returns-2 : tie.Need-returns-2
+returns-2 c =
+    let a = c .before .before .before .before .before .before .before .before .before .before .args in
+    let p = c .before .before .before .before .before .before .before .before .before .before .pre in
+    let q = c .before .before .before .before .before .before .before .put-sum in
     let r = c .before .before .put-groups in
     encoded (a .g .m) (a .k) (a .g .b) (a .g .column) (now (a .s)) (q .last .0) (r .last .0) (p .0) (p .2) (q .ensures) (r .ensures)
 
@@ -51,6 +64,9 @@ put-parity-spec =
     add-put-sum-2
     sub-put-sum
     put-sum-requires
+    put-columns-requires
     put-groups-requires
     same-length
-    returns)
+    returns
+    same-length-2
+    returns-2)
