@@ -96,8 +96,8 @@ fn put_rest(s: &mut [u8], seeded: bool, from: usize, b: usize, at: &[usize], to:
     }
 }
 
-// put_blocks, called in two ways that do the same: where there are eight places the compiler is told so, and then keeps the whole sum
-// in registers. That is worth an eighth of the time.
+// put_blocks, called in two ways that do the same: where there are eight places, as in every full group, the first gives the compiler a
+// constant count. Measured, that is worth an eighth of the time of encode.
 fn put_eight(s: &mut [u8], seeded: bool, from: usize, b: usize, at: &[usize], to: usize) -> usize
     requires { ⌜ Reads (now at) b from to (length (now s)) ⌝ }
     ensures { λ r. ⌜ (r ≤ b) × Put (now (s .entry)) (now (s .exit)) to r (λ l. held seeded (now (s .entry)) (from + l) ⊕ total (now (at .entry)) (length (now (at .entry))) (now (s .entry)) l) ⌝ }
