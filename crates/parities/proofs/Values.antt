@@ -1,94 +1,65 @@
 -- Cells that become sums, block after block of their lanes.
---   ready           when a cell past the k data columns is ready for a line over some of them
---   ready-still     it is so too in another stripe of the same length
---   value-fresh     a fresh sum is the seed plus the line
---   value-at        the value of a cell by its row and column
---   value-next      blocks one after another: the line is that of the stripe as it was
-use mathlib.Core.Path.{_≡_, refl, sym, ap, ap₂, _∙_, subst}
-use mathlib.Core.Bool.{Bool, true, cond}
+--   held-seed, held-none       a sum that is seeded, and one that is not
+--   reads-part                 fewer lanes of the cells can be read too, also in another stripe of the same length
+--   line-places                the cells at the places of a line add up to the line, where column 129, which no stripe has, is left out
+--   blocks-next, lanes-next    lanes put after others, from the first on and from lane x on: the sum is that of the stripe as it was
+use mathlib.Core.Path.{_≡_, ap, _∙_, subst}
+use mathlib.Core.Bool.{Bool, true, false}
 use mathlib.Core.List.{List}
-use Prim.Native.Nat.{ℕ, _+_, _-_, _*_, _≤_, _<_}
-use native.Mathlib.Nat.{mul-le-mul, mul-le-mul-right}
+use Prim.Native.Nat.{ℕ, _+_, _-_, _≤_, _<_}
 use native.Mathlib.Omega.{arith}
-use lib.ListN.{getD}
+use lib.ListN.{length, getD}
 use Rattle.parity.specs.Xor.{_⊕_}
-use Rattle.parity.specs.Shape.{columnLength}
 use Rattle.parity.specs.Stripe.{lane}
+use Rattle.parity.proofs.Xor.{zero-⊕}
+use Rattle.parity.proofs.Sum.{sum-cong}
 use Rattle.cells.specs.Runs.{Put}
-use Rattle.cells.proofs.Parts.{by-order}
-use Rattle.lines.specs.Lines.{span, Sized}
-use Rattle.lines.proofs.Cells.{cell-at}
-use Rattle.lines.proofs.Equations.{span-kept}
-use Rattle.parities.specs.Sums.{Ready, value}
+use Rattle.cells.proofs.Puts.{put-next, put-same, put-count}
+use Rattle.cells.proofs.Parts.{part}
+use Rattle.lines.specs.Lines.{span}
+use Rattle.lines.specs.Places.{blank, total, Listed}
+use Rattle.lines.proofs.Places.{total-none, total-part, blank-span}
+use Rattle.parities.specs.Sums.{held, Reads}
 
-pub ready : {m b c n z e i x y to : ℕ} (k : ℕ) → Sized m b c → k ≤ m → e ≤ 1 → i < m → x ≤ y → y ≤ k → k * c ≤ to → to + b ≤ n → (0 < z → b ≤ z)
-    → Ready m b c n z e i x y to
-ready {m} {c = c} {e = e} {y = y} k sized few slant inside order most past room seed =
-    let w : e * y ≤ 1 * m = mul-le-mul slant (omega arith) in
-    let p : y * c ≤ k * c = mul-le-mul-right c most in
-    record {
-      sized = sized;
-      crosses = record { slant = slant; inside = inside; order = order; within = omega arith; most = omega (arith, sized .few); columns = omega arith };
-      past = omega arith;
-      room = room;
-      seed = seed;
-    }
+pub held-seed : {seeded : Bool} (s : List ℕ) (p : ℕ) → seeded ≡ true → held seeded s p ≡ getD s p 0
+unfolding held
+held-seed s p e = rw e
 
-pub ready-still : {m b c n v z e i x y to : ℕ} → Ready m b c n z e i x y to → v ≡ n → Ready m b c v z e i x y to
-ready-still {m} {b} {c} {z = z} {e} {i} {x} {y} {to} r q = subst (λ (a : ℕ). Ready m b c a z e i x y to) (sym q) r
+pub held-none : {seeded : Bool} (s : List ℕ) (p : ℕ) → seeded ≡ false → held seeded s p ≡ 0
+unfolding held
+held-none s p e = rw e
 
-module _ (fresh : Bool) (seed : List ℕ) (m b : ℕ) (s : List ℕ) (e i x y to : ℕ) where
-  pub value-fresh : fresh ≡ true → (l : ℕ) → getD seed l 0 ⊕ span m (lane m b s l) e i x y ≡ value fresh seed m b s e i x y to l
-  unfolding value
-  value-fresh f l = rw f refl
+pub line-places : (m b e i x y : ℕ) {z n more : ℕ} {at v : List ℕ} → Listed b z 0 n more at v (λ s l. span m (blank 129 129 (lane m b s l)) e i x y)
+    → n ≤ length v → x ≤ y → y ≤ 129 → (s : List ℕ) (l : ℕ) → total (part v 0 n) (length (part v 0 n)) s l ≡ span m (lane m b s l) e i x y
+line-places m b e i x y {n = n} {at = at} {v} p room order most s l =
+    total-part v n room s l ∙ p .sums s l
+    ∙ ap (λ (z : ℕ). z ⊕ span m (blank 129 129 (lane m b s l)) e i x y) (total-none at s l) ∙ zero-⊕ (span m (blank 129 129 (lane m b s l)) e i x y)
+    ∙ blank-span m 129 129 (lane m b s l) e i x y order (λ t h₁ h₂. (λ q. absurd (omega arith), λ q. absurd (omega arith)))
 
-  pub value-at : (r t : ℕ) → to ≡ t * columnLength m b + r * b
-      → (l : ℕ) → value fresh seed m b s e i x y to l ≡ cond fresh (getD seed l 0) (lane m b s l r t) ⊕ span m (lane m b s l) e i x y
-  unfolding value
-  value-at r t place l = ap (λ (v : ℕ). cond fresh (getD seed l 0) v ⊕ span m (lane m b s l) e i x y) (sym (cell-at m b r t place s l))
+module _ {at : List ℕ} {b from to n : ℕ} (r : Reads at b from to n) where
+  pub reads-part : (a v : ℕ) → a ≤ b → v ≡ n → Reads at a from to v
+  reads-part a v h e = record { within = λ x hx. omega (arith, r .within x hx); past = r .past; room = omega (arith, r .room) }
 
-  -- a lane whose byte, and all bytes before the cell, are as they were has the value that it had
-  value-kept : (c n z : ℕ) → Ready m b c n z e i x y to → (t : List ℕ) → ((p : ℕ) → p < to → getD t p 0 ≡ getD s p 0)
-      → (l : ℕ) → getD t (to + l) 0 ≡ getD s (to + l) 0 → l < b → value fresh seed m b t e i x y to l ≡ value fresh seed m b s e i x y to l
-  unfolding value
-  value-kept c n z r t kept l h hl =
-      ap₂ (λ (v w : ℕ). cond fresh (getD seed l 0) v ⊕ w) h
-      (span-kept m b y s t (λ q hq. kept q (omega (arith, r .past, ap (λ (v : ℕ). y * v) (r .sized .column)))) l hl x y (r .crosses .order) (omega arith) e i)
+  module _ (seeded : Bool) (s t u : List ℕ) where
+    -- a lane whose seed, and all bytes before the cell, are as they were has the sum that it had
+    sum-kept : ((p : ℕ) → p < to → getD t p 0 ≡ getD s p 0) → (l : ℕ) → l < b → getD t (from + l) 0 ≡ getD s (from + l) 0
+        → held seeded t (from + l) ⊕ total at (length at) t l ≡ held seeded s (from + l) ⊕ total at (length at) s l
+    unfolding held total
+    sum-kept kept l h e = rw e (ap (λ (v : ℕ). held seeded s (from + l) ⊕ v) (sum-cong (length at) (λ x hx. kept (getD at x 0 + l) (omega (arith, r .within x hx)))))
 
-  pub value-next : (c n z : ℕ) → Ready m b c n z e i x y to → (t u : List ℕ) (o j a : ℕ) → o ≤ j → j + a ≤ b → Put s t (to + o) (j - o) (λ l. value fresh seed m b s e i x y to (o + l))
-      → Put t u (to + j) a (λ l. value fresh seed m b t e i x y to (j + l)) → Put s u (to + o) (j + a - o) (λ l. value fresh seed m b s e i x y to (o + l))
-  value-next c n z r t u o j a from room p q = record {
-    size = q .size ∙ p .size;
-    inside = λ l h. by-order (getD u (to + o + l) 0 ≡ value fresh seed m b s e i x y to (o + l)) l (j - o)
-        (λ g. q .before (to + o + l) (omega arith) ∙ p .inside l g)
-        (λ g.
-        let f : to + o + l ≡ to + j + (l - (j - o)) = omega arith in
-        let d : j + (l - (j - o)) ≡ o + l = omega arith in
-        ap (λ (v : ℕ). getD u v 0) f ∙ q .inside (l - (j - o)) (omega arith) ∙ ap (λ (v : ℕ). value fresh seed m b t e i x y to v) d
-        ∙ value-kept c n z r t (λ v hv. p .before v (omega arith)) (o + l) (p .after (to + (o + l)) (omega arith)) (omega arith));
-    before = λ v h. q .before v (omega arith) ∙ p .before v h;
-    after = λ v h. q .after v (omega arith) ∙ p .after v (omega arith);
-  }
+    pub blocks-next : (j a : ℕ) → j + a ≤ b → Put s t to j (λ l. held seeded s (from + l) ⊕ total at (length at) s l)
+        → Put t u (to + j) a (λ l. held seeded t (from + (j + l)) ⊕ total at (length at) t (j + l))
+        → Put s u to (j + a) (λ l. held seeded s (from + l) ⊕ total at (length at) s l)
+    blocks-next j a room p q =
+        put-next s t u to j j a _ (λ l. held seeded t (from + l) ⊕ total at (length at) t l) (omega arith) (omega arith) p q (λ l h₁ h₂.
+        sum-kept (p .before) l (omega arith) (p .after (from + l) (omega (arith, r .past))))
 
-  -- from the first lane on
-  pub value-first : (t : List ℕ) (j : ℕ) → Put s t to j (λ l. value fresh seed m b s e i x y to l) → Put s t (to + 0) (j - 0) (λ l. value fresh seed m b s e i x y to (0 + l))
-  value-first t j p = record {
-    size = p .size;
-    inside = λ l h.
-        let d : l ≡ 0 + l = omega arith in
-        let f : to + 0 + l ≡ to + l = omega arith in
-        ap (λ (v : ℕ). getD t v 0) f ∙ p .inside l (omega arith) ∙ ap (λ (v : ℕ). value fresh seed m b s e i x y to v) d;
-    before = λ v h. p .before v (omega arith);
-    after = λ v h. p .after v (omega arith);
-  }
-
-  pub value-whole : (t : List ℕ) (j : ℕ) → Put s t (to + 0) (j - 0) (λ l. value fresh seed m b s e i x y to (0 + l)) → Put s t to j (λ l. value fresh seed m b s e i x y to l)
-  value-whole t j p = record {
-    size = p .size;
-    inside = λ l h.
-        let d : 0 + l ≡ l = omega arith in
-        let f : to + l ≡ to + 0 + l = omega arith in
-        ap (λ (v : ℕ). getD t v 0) f ∙ p .inside l (omega arith) ∙ ap (λ (v : ℕ). value fresh seed m b s e i x y to v) d;
-    before = λ v h. p .before v (omega arith);
-    after = λ v h. p .after v (omega arith);
-  }
+    pub lanes-next : (x j a : ℕ) → x ≤ j → j + a ≤ b → Put s t (to + x) (j - x) (λ l. held seeded s (from + (x + l)) ⊕ total at (length at) s (x + l))
+        → Put t u (to + j) a (λ l. held seeded t (from + (j + l)) ⊕ total at (length at) t (j + l))
+        → Put s u (to + x) (j + a - x) (λ l. held seeded s (from + (x + l)) ⊕ total at (length at) s (x + l))
+    lanes-next x j a order room p q =
+        let place : to + j ≡ to + x + (j - x) = omega arith in
+        put-count (put-next s t u (to + x) (j - x) (j - x) a _ (λ l. held seeded t (from + (x + l)) ⊕ total at (length at) t (x + l)) (omega arith) (omega arith) p
+        (subst (λ (v : ℕ). Put t u v a (λ l. held seeded t (from + (x + (j - x + l))) ⊕ total at (length at) t (x + (j - x + l)))) place
+        (put-same q (λ l h. let e : j + l ≡ x + (j - x + l) = omega arith in ap (λ (v : ℕ). held seeded t (from + v) ⊕ total at (length at) t v) e)))
+        (λ l h₁ h₂. sum-kept (λ v hv. p .before v (omega arith)) (x + l) (omega arith) (p .after (from + (x + l)) (omega (arith, r .past))))) (omega arith)

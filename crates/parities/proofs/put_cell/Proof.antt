@@ -1,46 +1,64 @@
--- `parities::put_cell` meets its contract: the blocks, the small ones, and then the lanes that are left.
-use mathlib.Core.Path.{_∙_}
-use Prim.Native.Nat.{_-_}
-use lib.ListN.{length}
+-- `parities::put_cell` meets its contract: the places that are listed are those of the line, and no column is left out.
+use mathlib.Core.Path.{ap}
+use Prim.Native.Nat.{ℕ, _+_}
 use denote.Ref.{now}
-use Rattle.cells.proofs.Puts.{put-count}
-use Rattle.parities.proofs.Values.{ready-still, value-next, value-first, value-whole}
+use Rattle.parity.specs.Xor.{_⊕_}
+use Rattle.cells.proofs.Puts.{put-same}
+use Rattle.lines.proofs.Places.{within-part}
+use Rattle.parities.specs.Sums.{held}
+use Rattle.parities.proofs.Values.{line-places}
 use borrow.Author.Needs.{needs}
 use native.Mathlib.Omega.{arith}
 use Rattle.parities.proofs.put_cell.Statement.{statement}
 use Rattle.parities.proofs.put_cell.Tie as tie
 
-put-blocks-requires : tie.Need-put-blocks-requires
-put-blocks-requires c κs = search needs
+slice-aggregate-add-places : tie.Need-slice-aggregate-add-places
+slice-aggregate-add-places c = search needs
 
-put-small-requires : tie.Need-put-small-requires
-put-small-requires c κs =
-    let q = c .before .before .before .put-blocks .ensures in
-    (q .0, ready-still (c .before .before .before .before .before .before .before .pre) (q .2 .size))
+add-places-requires : tie.Need-add-places-requires
+add-places-requires c κs = search needs
 
-put-rest-requires : tie.Need-put-rest-requires
-put-rest-requires c κs =
-    let q = c .before .before .before .before .before .before .before .put-blocks .ensures in
-    let r = c .before .before .before .put-small .ensures in
-    (r .1, r .2, ready-still (c .before .before .before .before .before .before .before .before .before .before .before .pre) (r .3 .size ∙ q .2 .size))
+sub-put-all : tie.Need-sub-put-all
+sub-put-all c = search needs
+
+part-put-all-start : tie.Need-part-put-all-start
+part-put-all-start c = search needs
+
+part-put-all-end : tie.Need-part-put-all-end
+part-put-all-end c = search needs
+
+put-all-requires : tie.Need-put-all-requires
+put-all-requires c κs =
+    let z = c .before .before .before .before .before .before .before in
+    let a = z .args in
+    let y = c .before .before .before .before .add-places in
+    record {
+      within = within-part (y .last .0) (y .result) (omega arith) (a .g .b) (a .to) (y .ensures .within (a .to) (z .pre .past) (λ x h. absurd (omega arith)));
+      past = z .pre .later;
+      room = z .pre .room;
+    }
 
 same-length : tie.Need-same-length
 same-length c = search needs
 
 returns : tie.Need-returns
 returns c =
-    let a = c .before .before .before .before .before .before .before .before .before .before .before .before .before .before .args in
-    let q = c .before .before .before .before .before .before .before .before .before .before .put-blocks in
-    let r = c .before .before .before .before .before .before .put-small in
-    let t = q .last .0 in
-    let u = r .last .0 in
-    let v = c .before .before .put-rest .last .0 in
-    value-whole (a .fresh) (now (a .seed)) (a .g .m) (a .g .b) (now (a .s)) (a .slant) (a .i) (a .t0) (a .t1) (a .to) v (a .g .b) (put-count
-    (value-next (a .fresh) (now (a .seed)) (a .g .m) (a .g .b) (now (a .s)) (a .slant) (a .i) (a .t0) (a .t1) (a .to) (a .g .column) (length (now (a .s))) (length (now (a .seed))) (c .before .before .before .before .before .before .before .before .before .before .before .before .before .before .pre) u v 0 (r .result) (a .g .b - r .result) (omega arith) (omega arith)
-    (put-count (value-next (a .fresh) (now (a .seed)) (a .g .m) (a .g .b) (now (a .s)) (a .slant) (a .i) (a .t0) (a .t1) (a .to) (a .g .column) (length (now (a .s))) (length (now (a .seed))) (c .before .before .before .before .before .before .before .before .before .before .before .before .before .before .pre) t u 0 (q .result) (r .result - q .result) (omega arith) (omega arith) (value-first (a .fresh) (now (a .seed)) (a .g .m) (a .g .b) (now (a .s)) (a .slant) (a .i) (a .t0) (a .t1) (a .to) t (q .result) (q .ensures .2)) (r .ensures .3)) (omega arith))
-    (c .before .before .put-rest .ensures)) (omega arith))
+    let z = c .before .before .before .before .before .before .before .before .before .before in
+    let a = z .args in
+    let s = now (a .s) in
+    let y = c .before .before .before .before .before .before .before .add-places in
+    put-same (c .before .before .put-all .ensures) (λ l h.
+    ap (λ (v : ℕ). held (a .seeded) s (a .from + l) ⊕ v) (line-places (a .g .m) (a .g .b) (a .slant) (a .i) (a .t0) (a .t1) (y .ensures) (omega arith) (z .pre .crosses .order) (z .pre .crosses .most) s l))
 
 pub put-cell-spec : {M : Type 1} → statement M
 put-cell-spec =
     tie.close
-    (tie.spec put-blocks-requires put-small-requires put-rest-requires same-length returns)
+    (tie.spec
+    slice-aggregate-add-places
+    add-places-requires
+    sub-put-all
+    part-put-all-start
+    part-put-all-end
+    put-all-requires
+    same-length
+    returns)

@@ -1,53 +1,59 @@
--- `parities::put_groups` meets its contract. The invariant: H and D have the sums over the columns before t.
-use mathlib.Core.Path.{_≡_, _∙_, subst}
-use Prim.Native.Nat.{ℕ, _≤_, _-_}
+-- `parities::put_groups` meets its contract. The invariant: H and D have the sums over the columns before t; before the first group they are as they were.
+use mathlib.Core.Path.{_≡_, refl, _∙_, subst}
+use mathlib.Core.Bool.{true}
+use Prim.Native.Nat.{ℕ, _≤_, _<_, _-_}
+use lib.ListN.{length}
 use denote.Ref.{now}
-use Rattle.parities.specs.Sums.{Summed}
-use Rattle.parities.proofs.Rows.{summed-none, summed-next}
+use Rattle.parities.specs.Sums.{Grown}
+use Rattle.parities.proofs.Rows.{grown-group}
 use borrow.Author.Needs.{needs}
 use native.Mathlib.Omega.{arith}
 use Rattle.parities.proofs.put_groups.Statement.{statement}
 use Rattle.parities.proofs.put_groups.Tie as tie
 
 abbrev Inv-loop : tie.InvT-loop
-Inv-loop s₀ sum g k t₀ s t = (t ≤ k) × Summed (g .m) k (g .b) t sum s₀ s
+Inv-loop s₀ g k t₀ s t =
+    (t ≤ k) × (length s ≡ length s₀) × (t ≡ 0 → s ≡ s₀) × (0 < t → Grown true (g .m) k (g .b) 0 t s₀ s 0 (g .m - 1))
 
 abbrev μ-loop : tie.MeasureT-loop
-μ-loop s₀ sum g k t₀ s t = k - t
+μ-loop s₀ g k t₀ s t = k - t
 
 loop-holds : tie.Need-loop-holds Inv-loop μ-loop
-loop-holds c =
-    let a = c .before .before .args in
-    (search needs, summed-none (a .g .m) (a .k) (a .g .b) (now (a .sum)) (now (a .s)))
+loop-holds c = (search needs, refl, λ e. refl, λ h. absurd (omega arith))
 
 group-end-requires : tie.Need-group-end-requires Inv-loop μ-loop
 group-end-requires c κs = search needs
 
 put-rows-requires : tie.Need-put-rows-requires Inv-loop μ-loop
 put-rows-requires c κs =
-    let p = c .before .before .before .before .before .before .pre in
+    let p = c .before .before .before .before .before .pre in
     let e = c .before .group-end .ensures in
-    (p .0, p .2, omega arith, e .1, c .before .before .before .loop .inv .1 .size ∙ p .3, p .4)
+    (p .0, p .2, omega arith, e .1, e .2, c .before .before .before .loop .inv .1 ∙ p .3)
 
 loop-less : tie.Need-loop-less Inv-loop μ-loop
 loop-less c = omega arith
 
 loop-again : tie.Need-loop-again Inv-loop μ-loop
 loop-again c =
-    let a = c .before .before .before .before .before .before .before .before .before .args in
+    let a = c .before .before .before .before .before .before .before .before .args in
     let y = c .before .before .before .before .before .before .loop in
     let e = c .before .before .before .before .group-end in
-    (e .ensures .1, summed-next (a .g .m) (a .k) (a .g .b) (now (a .sum)) (now (a .s)) (y .t) (e .result) (omega arith) (e .ensures .1) (y .s) (c .before .before .put-rows .last .0) (y .inv .1) (c .before .before .put-rows .ensures))
+    let q = c .before .before .put-rows in (
+      e .ensures .1,
+      q .ensures .size ∙ y .inv .1,
+      λ z. absurd (omega arith),
+      λ h. grown-group (a .g .m) (a .k) (a .g .b) (now (a .s)) (y .s) (q .last .0) (y .t) (e .result) (omega arith) (e .ensures .1) (y .inv .2) (y .inv .3) (q .ensures),
+    )
 
 same-length : tie.Need-same-length Inv-loop μ-loop
-same-length c = c .before .loop .inv .1 .size
+same-length c = c .before .loop .inv .1
 
 returns : tie.Need-returns Inv-loop μ-loop
 returns c =
-    let a = c .before .before .before .before .args in
+    let a = c .before .before .before .args in
     let y = c .before .loop in
     let e : y .t ≡ a .k = omega arith in
-    subst (λ (n : ℕ). Summed (a .g .m) (a .k) (a .g .b) n (now (a .sum)) (now (a .s)) (y .s)) e (y .inv .1)
+    subst (λ (n : ℕ). Grown true (a .g .m) (a .k) (a .g .b) 0 n (now (a .s)) (y .s) 0 (a .g .m - 1)) e (y .inv .3 (omega arith))
 
 pub put-groups-spec : {M : Type 1} → statement M
 put-groups-spec =

@@ -1,7 +1,9 @@
 -- `parities::put_rest` meets its contract: the array that is lent has as many bytes as there are lanes left, which may be none.
+use mathlib.Core.Path.{refl}
 use Prim.Native.Nat.{_+_}
 use denote.Ref.{now}
 use Rattle.cells.proofs.Puts.{put-none, put-count}
+use Rattle.parities.proofs.Values.{reads-part}
 use borrow.Author.Needs.{needs}
 use native.Mathlib.Omega.{arith}
 use Rattle.parities.proofs.put_rest.Statement.{statement}
@@ -20,7 +22,7 @@ part-rest-end : tie.Need-part-rest-end
 part-rest-end c = search needs
 
 put-part-requires : tie.Need-put-part-requires
-put-part-requires c κs = search needs
+put-part-requires c κs = reads-part (c .before .before .before .before .before .pre .2) _ _ (omega arith) refl
 
 same-length : tie.Need-same-length
 same-length c = search needs

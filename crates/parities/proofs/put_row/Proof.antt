@@ -1,77 +1,86 @@
 -- `parities::put_row` meets its contract: the two cells lie in the parity columns, and what is summed in the data columns.
-use mathlib.Core.Path.{refl}
-use Prim.Native.Nat.{_+_, _*_}
 use denote.Ref.{now}
 use Rattle.lines.proofs.Cells.{cell-end}
-use Rattle.parities.proofs.Values.{ready}
-use Rattle.parities.proofs.Rows.{grown-one}
+use Rattle.parities.proofs.Rows.{ready, seed-past, grown-one}
 use borrow.Author.Needs.{needs}
 use native.Mathlib.Omega.{arith}
 use Rattle.parities.proofs.put_row.Statement.{statement}
 use Rattle.parities.proofs.put_row.Tie as tie
 
-sub-none : tie.Need-sub-none
-sub-none c = search needs
+mul-h : tie.Need-mul-h
+mul-h c = search needs
 
-part-none-start : tie.Need-part-none-start
-part-none-start c = search needs
+mul-h-2 : tie.Need-mul-h-2
+mul-h-2 c =
+    let a = c .before .args in
+    omega (arith, cell-end (a .g .m) (a .g .b) (a .i) (c .before .pre .5))
 
-part-none-end : tie.Need-part-none-end
-part-none-end c = search needs
+add-h : tie.Need-add-h
+add-h c =
+    let a = c .before .args in
+    omega (arith, cell-end (a .g .m) (a .g .b) (a .i) (c .before .pre .5))
 
-mul-at : tie.Need-mul-at
-mul-at c = search needs
+add-d : tie.Need-add-d
+add-d c =
+    let a = c .before .args in
+    omega (arith, cell-end (a .g .m) (a .g .b) (a .i) (c .before .pre .5))
 
-mul-at-2 : tie.Need-mul-at-2
-mul-at-2 c =
-    let a = c .before .before .before .before .before .args in
-    omega (arith, cell-end (a .g .m) (a .g .b) (a .i) (c .before .before .before .before .before .pre .4))
+mul-last : tie.Need-mul-last
+mul-last c = search needs
 
-add-at : tie.Need-add-at
-add-at c =
-    let a = c .before .before .before .before .before .args in
-    omega (arith, cell-end (a .g .m) (a .g .b) (a .i) (c .before .before .before .before .before .pre .4))
+add-last : tie.Need-add-last
+add-last c = search needs
+
+add-last-2 : tie.Need-add-last-2
+add-last-2 c = search needs
+
+sub-last : tie.Need-sub-last
+sub-last c =
+    let a = c .before .args in
+    omega (arith, cell-end (a .g .m) (a .g .b) (a .i) (c .before .pre .5))
 
 put-cell-requires : tie.Need-put-cell-requires
 put-cell-requires c κs =
-    let a = c .before .before .before .before .before .before .args in
-    let p = c .before .before .before .before .before .before .pre in
-    let inside = cell-end (a .g .m) (a .g .b) (a .i) (p .4) in
-    ready (a .k) (p .0) (p .1) (omega arith) (omega arith) (p .2) (p .3) (omega arith) (omega arith) (λ h. absurd (omega arith))
+    let a = c .before .before .args in
+    let p = c .before .before .pre in
+    let inside = cell-end (a .g .m) (a .g .b) (a .i) (p .5) in
+    ready (a .k) (p .0) (p .1) (omega arith) (omega arith) (p .2) (p .3) (p .4) (omega arith) (omega arith) (omega arith)
 
-add-put-cell : tie.Need-add-put-cell
-add-put-cell c =
-    let a = c .before .before .before .before .before .before .before .before .before .before .before .args in
-    omega (arith, cell-end (a .g .m) (a .g .b) (a .i) (c .before .before .before .before .before .before .before .before .before .before .before .pre .4))
+seed-place-requires : tie.Need-seed-place-requires
+seed-place-requires c κs = search needs
 
 put-cell-requires-2 : tie.Need-put-cell-requires-2
 put-cell-requires-2 c κs =
-    let a = c .before .before .before .before .before .before .before .before .before .before .before .args in
-    let p = c .before .before .before .before .before .before .before .before .before .before .before .pre in
-    let inside = cell-end (a .g .m) (a .g .b) (a .i) (p .4) in
-    ready (a .k) (p .0) (p .1) (omega arith) (omega arith) (p .2) (p .3) (omega arith) (omega arith) (λ h. omega arith)
+    let a = c .before .before .before .before .before .before .before .args in
+    let p = c .before .before .before .before .before .before .before .pre in
+    let w = seed-past (a .fresh) (a .g .m) (a .k) (a .g .b) (a .g .column) (a .i) (p .0) (p .5) (c .seed-place .ensures) in
+    ready (a .k) (p .0) (p .1) (omega arith) (omega arith) (p .2) (p .3) (p .4) (omega arith) (w .0) (omega (arith, w .1))
 
 same-length : tie.Need-same-length
 same-length c = search needs
 
 returns : tie.Need-returns
 returns c =
-    let a = c .before .before .before .before .before .before .before .before .before .before .before .before .before .before .args in
-    let p = c .before .before .before .before .before .before .before .before .before .before .before .before .before .before .pre in
-    grown-one (a .fresh) (a .g .m) (a .k) (a .g .b) (a .t0) (a .t1) (p .2) (p .3) (now (a .sum)) (now (a .s)) (c .before .before .before .before .before .before .before .put-cell .last .0) (c .before .before .put-cell2 .last .0) (a .i) (p .4) (a .g .column) (a .k * a .g .column + a .i * a .g .b) (p .0 .column) refl (c .before .before .before .before .before .before .before .put-cell .ensures) (c .before .before .put-cell2 .ensures)
+    let a = c .before .before .before .before .before .before .before .before .before .before .args in
+    let p = c .before .before .before .before .before .before .before .before .before .before .pre in
+    let t = c .before .before .before .before .before .before .before .put-cell in
+    let u = c .before .before .put-cell2 in
+    grown-one (a .fresh) (a .g .m) (a .k) (a .g .b) (a .t0) (a .t1) (p .2) (p .3) (now (a .s)) (t .last .0) (u .last .0) (a .i) (p .5) (a .g .column) (c .before .before .before .seed-place .result) (p .0) (c .before .before .before .seed-place .ensures) (t .ensures) (u .ensures)
 
 pub put-row-spec : {M : Type 1} → statement M
 put-row-spec =
     tie.close
     (tie.spec
-    sub-none
-    part-none-start
-    part-none-end
-    mul-at
-    mul-at-2
-    add-at
+    mul-h
+    mul-h-2
+    add-h
+    add-d
+    mul-last
+    add-last
+    add-last-2
+    sub-last
     put-cell-requires
-    add-put-cell
+    seed-place-requires
     put-cell-requires-2
     same-length
     returns)

@@ -10,24 +10,25 @@ use Rattle.parities.proofs.put_rows.Statement.{statement}
 use Rattle.parities.proofs.put_rows.Tie as tie
 
 abbrev Inv-loop : tie.InvT-loop
-Inv-loop s₀ sum fresh g k t0 t1 i₀ i-end s i = (i-end ≡ g .m - 1) × (i ≤ i-end) × Grown fresh (g .m) k (g .b) t0 t1 sum s₀ s 0 i
+Inv-loop s₀ fresh g k t0 t1 i₀ i-end s i =
+    (i-end ≡ g .m - 1) × (i ≤ i-end) × Grown fresh (g .m) k (g .b) t0 t1 s₀ s 0 i
 
 abbrev μ-loop : tie.MeasureT-loop
-μ-loop s₀ sum fresh g k t0 t1 i₀ i-end s i = i-end - i
+μ-loop s₀ fresh g k t0 t1 i₀ i-end s i = i-end - i
 
 sub-i-end : tie.Need-sub-i-end Inv-loop μ-loop
 sub-i-end c = search needs
 
 loop-holds : tie.Need-loop-holds Inv-loop μ-loop
 loop-holds c =
-    let a = c .before .before .before .args in
-    (search needs, search needs, grown-none (a .fresh) (a .g .m) (a .k) (a .g .b) (a .t0) (a .t1) (now (a .sum)) (now (a .s)))
+    let a = c .before .before .args in
+    (search needs, search needs, grown-none (a .fresh) (a .g .m) (a .k) (a .g .b) (a .t0) (a .t1) (now (a .s)))
 
 put-row-requires : tie.Need-put-row-requires Inv-loop μ-loop
 put-row-requires c κs =
-    let p = c .before .before .before .before .before .before .pre in
+    let p = c .before .before .before .before .before .pre in
     let y = c .before .before .loop in
-    (p .0, p .1, p .2, p .3, omega arith, y .inv .2 .size ∙ p .4, p .5)
+    (p .0, p .1, p .2, p .3, p .4, omega arith, y .inv .2 .size ∙ p .5)
 
 add-i : tie.Need-add-i Inv-loop μ-loop
 add-i c = search needs
@@ -37,12 +38,13 @@ loop-less c = search needs
 
 loop-again : tie.Need-loop-again Inv-loop μ-loop
 loop-again c =
-    let a = c .before .before .before .before .before .before .before .before .before .args in
-    let p = c .before .before .before .before .before .before .before .before .before .pre in
-    let y = c .before .before .before .before .before .loop in (
+    let a = c .before .before .before .before .before .before .before .before .args in
+    let p = c .before .before .before .before .before .before .before .before .pre in
+    let y = c .before .before .before .before .before .loop in
+    let q = c .before .before .put-row in (
       search needs,
       search needs,
-      grown-next (a .fresh) (a .g .m) (a .k) (a .g .b) (a .t0) (a .t1) (p .2) (p .3) (now (a .sum)) (now (a .s)) (y .s) (c .before .before .put-row .last .0) (y .i) (omega arith) (y .inv .2) (c .before .before .put-row .ensures),
+      grown-next (a .fresh) (a .g .m) (a .k) (a .g .b) (a .t0) (a .t1) (p .2) (p .3) (now (a .s)) (y .s) (q .last .0) (y .i) (omega arith) (y .inv .2) (q .ensures),
     )
 
 same-length : tie.Need-same-length Inv-loop μ-loop
@@ -50,10 +52,10 @@ same-length c = c .before .loop .inv .2 .size
 
 returns : tie.Need-returns Inv-loop μ-loop
 returns c =
-    let a = c .before .before .before .before .before .args in
+    let a = c .before .before .before .before .args in
     let y = c .before .loop in
     let e : y .i ≡ a .g .m - 1 = omega arith in
-    subst (λ (n : ℕ). Grown (a .fresh) (a .g .m) (a .k) (a .g .b) (a .t0) (a .t1) (now (a .sum)) (now (a .s)) (y .s) 0 n) e (y .inv .2)
+    subst (λ (n : ℕ). Grown (a .fresh) (a .g .m) (a .k) (a .g .b) (a .t0) (a .t1) (now (a .s)) (y .s) 0 n) e (y .inv .2)
 
 pub put-rows-spec : {M : Type 1} → statement M
 put-rows-spec =
