@@ -186,30 +186,35 @@ reports-one image s bench before after after′ benched benched′ out out′ r 
 
 -- ---- what is never judged where enough is lent
 
-module _ (image : List ℕ) {f : Refusal} (short : Short f) where
+module _ {f : Refusal} (short : Short f) where
   -- the contents are not refused by 2 or 3
-  not-contents : Gives (contentsRules image) (refuse f) → ⊥
-  not-contents (inl p) = clash short (p .1) refl
-  not-contents (inr (_, inl p)) = clash short (p .1) refl
-  not-contents (inr (_, inr (_, inl p))) = clash short (p .1) refl
-  not-contents (inr (_, inr (_, inr p))) = passes-not f (sym (p .1))
+  not-contents : (image : List ℕ) → Gives (contentsRules image) (refuse f) → ⊥
+  not-contents image (inl p) = clash short (p .1) refl
+  not-contents image (inr (_, inl p)) = clash short (p .1) refl
+  not-contents image (inr (_, inr (_, inl p))) = clash short (p .1) refl
+  not-contents image (inr (_, inr (_, inr p))) = passes-not f (sym (p .1))
 
-  -- nor is a well-formed image
-  not-formed : {shape : Shape} {map : Map} (s bench x : List ℕ) → Formed image shape map → length image ≤ 16384 → 49056 ≤ length s → 32704 ≤ length bench
+  -- nor is a well-formed image, if its stripe and its bench have room
+  not-formed : (shape : Shape) (map : Map) (s bench x : List ℕ)
+      → (absences (shape .k) (map .places) ≤ 2 → (stripeOf shape ≤ length s) × (benchOf shape ≤ length bench))
       → Gives (formedRules shape map s bench x) (refuse f) → ⊥
-  not-formed s bench x h small long room (inl p) = clash short (p .1) refl
-  not-formed s bench x h small long room (inr (few, inl p)) = omega (arith, p .0, most (formed-good h) small (omega arith) .0)
-  not-formed s bench x h small long room (inr (few, inr (_, inl p))) = omega (arith, p .0, most (formed-good h) small (omega arith) .1)
-  not-formed s bench x h small long room (inr (few, inr (_, inr (_, inl p)))) = clash short (p .1) refl
-  not-formed s bench x h small long room (inr (few, inr (_, inr (_, inr p)))) = passes-not f (sym (p .1))
+  not-formed shape map s bench x fits (inl p) = clash short (p .1) refl
+  not-formed shape map s bench x fits (inr (few, inl p)) = omega (arith, p .0, fits (omega arith) .0)
+  not-formed shape map s bench x fits (inr (few, inr (_, inl p))) = omega (arith, p .0, fits (omega arith) .1)
+  not-formed shape map s bench x fits (inr (few, inr (_, inr (_, inl p)))) = clash short (p .1) refl
+  not-formed shape map s bench x fits (inr (few, inr (_, inr (_, inr p)))) = passes-not f (sym (p .1))
 
 pub enough : Enough
 unfolding Enough
 enough image s after bench benched r long room h = (none refusal.StripeLength (inl refl), none refusal.BenchLength (inr refl))
   where
+    fits : length image ≤ 16384 → (shape : Shape) (map : Map) → Formed image shape map → absences (shape .k) (map .places) ≤ 2
+        → (stripeOf shape ≤ length s) × (benchOf shape ≤ length bench)
+    fits l shape map formed few = let (stripe, double) = most (formed-good formed) l few in (omega arith, omega arith)
+
     none : (f : Refusal) → Short f → r .outcome ≡ outcome.Refused f → ⊥
     none f short e =
         by-contents ⊥ (h .contents)
         (λ l. clash short (ap verdictOf (sym e ∙ h .long l .outcome)) refl)
-        (λ l g t. not-contents image short (rw (ap verdictOf (sym e ∙ h .bad l g t .outcome)) t))
-        (λ l shape map formed. not-formed image short s bench _ formed l long room (rw e at (h .formed l shape map formed .1 .told)))
+        (λ l g t. not-contents short image (rw (ap verdictOf (sym e ∙ h .bad l g t .outcome)) t))
+        (λ l shape map formed. not-formed short shape map s bench _ (fits l shape map formed) (rw e at (h .formed l shape map formed .1 .told)))
