@@ -1,9 +1,11 @@
 -- Laws of judgements.
 --   absent-none, absent-next      how many columns are absent, below 0 and below t + 1
 --   formed-said, formed-good      what is known of an image whose contents say a shape
+--   by-contents                   an image is too long, or its contents are refused, or it is well formed
 --   not-stray                     its map has no place above its columns
 --   bench-size                    the bench that was lent comes back with its length
---   read-fills                    what reading such an image into a stripe of its length leaves
+--   read-passes, read-fills       what reading such an image into a stripe of its length leaves
+--   skip                          a rule whose condition fails is passed over
 --   parts-complete, parts-contradicted    a judgement in parts, by what restore answers
 --   part-size                     the length of a part that begins a buffer
 --   formed-ambiguous, formed-stripe, formed-bench, formed-lent    a judgement of a well-formed image, by the way out
@@ -20,6 +22,7 @@ use lib.Seq.{take-at, drop-at, length-take-le}
 use borrow.Rule.Slice.PartMut.{putMid}
 use Rattle.parity.specs.Sum.{count}
 use Rattle.parity.specs.Presence.{present, absences}
+use Rattle.cells.proofs.Parts.{by-order}
 use Rattle.evenodd.specs.declared.maps.Map.{Map}
 use Rattle.evenodd.specs.declared.restoring.Restored.the-variants as restored
 use Rattle.evenodd.specs.declared.shapes.Refusal.{Refusal}
@@ -59,9 +62,24 @@ formed-good {image} {shape} {map} f = good-answer image map (f .told) (f .says)
 pub formed-said : {image : List ℕ} (c : Contents) (shape : Shape) → ContentsOf image c → c .answer ≡ read.Shape (shape .m) (shape .k) (shape .b) → Formed image shape (c .map)
 formed-said c shape h e = record { told = rw e at (h .told); says = rw e at (h .says) }
 
+pub by-contents : {image : List ℕ} (P : Type 0) → (length image ≤ 16384 → (c : Contents) × ContentsOf image c) → (16384 < length image → P)
+    → (length image ≤ 16384 → (f : Refusal) → Gives (contentsRules image) (refuse f) → P)
+    → (length image ≤ 16384 → (shape : Shape) (map : Map) → Formed image shape map → P) → P
+by-contents {image} P contents long bad formed = by-order P 16384 (length image) long (λ l. let (c, found) = contents l in go l c found (c .answer) refl)
+  where
+    go : (l : length image ≤ 16384) (c : Contents) → ContentsOf image c → (a : Read) → c .answer ≡ a → P
+    go l c found (read.Refused f) e = bad l f (rw e at (found .told))
+    go l c found (read.Shape m k b) e = let shape : Shape = record { m = m; k = k; b = b } in formed l shape (c .map) (formed-said c shape found e)
+
 -- no place above the columns is present
 pub not-stray : {image : List ℕ} {m k b : ℕ} {map : List Bool} → Good image m k b map → Stray k map → ⊥
 not-stray g p = true≢false (sym (p .there) ∙ g .formed .clear (p .at) (p .above))
+
+pub read-passes : {image : List ℕ} (s : List ℕ) {shape : Shape} {map : Map} → Formed image shape map → length s ≡ stripeOf shape
+    → Gives (readRules image s) pass
+read-passes {image} s f n =
+    let own = formed-good f .own in
+    gives-after (contentsRules image) (lengthRules image s) pass (f .told) (gives-next (λ d. d (rw (own .first, own .second, own .third) at n)) refl)
 
 module _ {image s after : List ℕ} {shape : Shape} {map : Map} (f : Formed image shape map) (n : length s ≡ stripeOf shape) where
   fills : (a : Read) (other : Map) → Gives (readRules image s) (answered a) → Fills image a other s after
@@ -73,16 +91,12 @@ module _ {image s after : List ℕ} {shape : Shape} {map : Map} (f : Formed imag
       let h = good-answer image other passes (own, filled .formed) in
       let (first, second, third, places) = image-one image (shape .m) (shape .k) (shape .b) x y z (map .places) (other .places) (g .shape) (h .shape) (g .formed) (h .formed) in
       rw (first, second, third, places) filled
-  fills (read.Refused r) other told _ =
-      let own = formed-good f .own in
-      absurd (passes-not r (gives-one (readRules image s) pass (refuse r)
-      (gives-after (contentsRules image) (lengthRules image s) pass (f .told) (gives-next (λ d. d (rw (own .first, own .second, own .third) at n)) refl)) told))
+  fills (read.Refused r) other told _ = absurd (passes-not r (gives-one (readRules image s) pass (refuse r) (read-passes s f n) told))
 
   pub read-fills : (r : Contents) → ReadInto image s after r → Filled (shape .m) (shape .k) (shape .b) (map .places) image s after
   read-fills r h = fills (r .answer) (r .map) (h .told) (h .fills)
 
--- a rule whose condition fails is passed over
-skip : {C R : Type 0} {v w : Verdict} → (C → ⊥) → (C × (v ≡ w)) ⊎ ((C → ⊥) × R) → R
+pub skip : {C R : Type 0} {v w : Verdict} → (C → ⊥) → (C × (v ≡ w)) ⊎ ((C → ⊥) × R) → R
 skip n (inl p) = absurd (n (p .0))
 skip n (inr p) = p .1
 

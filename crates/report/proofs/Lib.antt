@@ -2,3 +2,4 @@
 pub mod Shown
 pub mod Judged
 pub mod Told
+pub mod Theorems

@@ -1,6 +1,6 @@
 -- What is known of a judged image where its report is written.
 --   small          an image of at most 16,384 bytes with at most two columns absent: a column is at most 16,352 bytes, and so are k of them
---   enough         so a stripe of 49,056 bytes and a bench of 32,704 are enough
+--   most           so its shape asks for a stripe of at most 49,056 bytes and a bench of at most 32,704
 --   Told, told     an outcome that names a shape: the image is short enough and well formed
 --   told-fits      the numbers of the shape have at most four digits
 --   tellable       where every column is there, the columns can be shown, and their text has room
@@ -24,11 +24,7 @@ use Rattle.evenodd.specs.declared.shapes.Refusal.the-variants as refusal
 use Rattle.evenodd.specs.Maps.{absentBelow}
 use Rattle.evenodd.proofs.Rules.{passed-first}
 use Rattle.evenodd.proofs.Presence.{absences-below}
-use Rattle.image.specs.declared.answers.Read.{Read}
-use Rattle.image.specs.declared.answers.Read.the-variants as read
-use Rattle.image.specs.declared.answers.Contents.{Contents}
 use Rattle.image.specs.Format.{presentBelow}
-use Rattle.image.specs.Reads.{ContentsOf}
 use Rattle.image.proofs.Filling.{Good}
 use Rattle.image.proofs.Laid.{image-laid}
 use Rattle.report.specs.declared.lines.Shape.{Shape}
@@ -39,7 +35,7 @@ use Rattle.report.specs.Shown.{shown, Held}
 use Rattle.report.specs.Lines.{shapeLine, columnLines, answerLine}
 use Rattle.report.specs.Judgements.{Formed, stripeOf, benchOf, Leaves, JudgesFormed, JudgesImage}
 use Rattle.report.specs.Reports.{completeText, textOf, Tellable, Reports}
-use Rattle.report.proofs.Judged.{formed-said, formed-good, not-stray, bench-size}
+use Rattle.report.proofs.Judged.{by-contents, formed-good, not-stray, bench-size}
 
 -- each place is present or absent
 present-absent : (n : ℕ) (map : List Bool) → presentBelow n map + absentBelow n map ≡ n
@@ -63,9 +59,9 @@ module _ {image : List ℕ} {m k b : ℕ} {map : List Bool} (g : Good image m k 
       let real = g .shape .real in
       (omega arith, omega arith)
 
-  pub enough : (stripeLength m k b ≤ 49056) × (benchLength m b ≤ 32704)
+  pub most : (stripeLength m k b ≤ 49056) × (benchLength m b ≤ 32704)
   unfolding stripeLength benchLength
-  enough = let (all, one) = small in (omega (arith, add-mul k 2 (columnLength m b)), omega arith)
+  most = let (all, one) = small in (omega (arith, add-mul k 2 (columnLength m b)), omega arith)
 
   text-room : 33 + (k + 2) * (15 + 2 * columnLength m b) ≤ 102400
   text-room =
@@ -96,18 +92,13 @@ module _ (image s after bench benched : List ℕ) (x y : Shape) (map : Map) wher
 
 module _ {image s after bench benched : List ℕ} where
   pub told : (j : Judgement) (x : Shape) → JudgesImage image s after bench benched j → Names x (j .outcome) → Told image s after bench benched j x
-  told j x h names = by-order (Told image s after bench benched j x) 16384 (length image)
+  told j x h names = by-contents (Told image s after bench benched j x) (h .contents)
       (λ l. absurd (rw (h .long l .outcome) at names))
-      (λ l. let (c, found) = h .contents l in go l c found (c .answer) refl)
-    where
-      go : (l : length image ≤ 16384) (c : Contents) → ContentsOf image c → (a : Read) → c .answer ≡ a → Told image s after bench benched j x
-      go l c found (read.Refused f) e = absurd (rw (h .bad l f (rw e at (found .told)) .outcome) at names)
-      go l c found (read.Shape m k b) e =
-          let y : Shape = record { m = m; k = k; b = b } in
-          let formed = formed-said c y found e in
-          let (same, judged) = h .formed l y (c .map) formed in
-          let q : y ≡ x = same-shape image s after bench benched x y (c .map) (j .outcome) names (judged .leaves) in
-          record { short = l; formed = rw (same, ← q) formed; judged = rw (same, ← q) judged }
+      (λ l f t. absurd (rw (h .bad l f t .outcome) at names))
+      (λ l y map formed.
+      let (same, judged) = h .formed l y map formed in
+      let q : y ≡ x = same-shape image s after bench benched x y map (j .outcome) names (judged .leaves) in
+      record { short = l; formed = rw (same, ← q) formed; judged = rw (same, ← q) judged })
 
   module _ {j : Judgement} {shape : Shape} (t : Told image s after bench benched j shape) where
     pub told-fits : (shape .m < 10000) × (shape .k < 10000) × (shape .b < 10000)

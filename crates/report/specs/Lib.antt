@@ -3,3 +3,4 @@ pub mod Shown
 pub mod Lines
 pub mod Judgements
 pub mod Reports
+pub mod Theorems

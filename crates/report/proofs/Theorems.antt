@@ -1,0 +1,220 @@
+-- The proofs of the statements in specs/Theorems. What is read and restored is determined, and a list of rules gives one verdict: so one judgement
+-- meets the promise, and one report. Of an image that is short and lacks at most two columns the shape is small: so enough is lent.
+use mathlib.Core.Path.{_≡_, refl, sym, ap, ap₂, _∙_}
+use mathlib.Core.Logic.{_⊎_, inl, inr}
+use mathlib.Core.Bool.{Bool, true, false, cond, true≢false}
+use mathlib.Core.List.{List, _++_}
+use Prim.Native.Nat.{ℕ, _≤_, _<_}
+use native.Mathlib.Omega.{arith}
+use lib.Dec.{eqb}
+use lib.ListN.{length, take, drop, take-append-drop}
+use lib.Seq.{length-take-le}
+use Rattle.parity.specs.Presence.{absences}
+use Rattle.cells.proofs.Parts.{by-order}
+use Rattle.evenodd.specs.declared.maps.Map.{Map}
+use Rattle.evenodd.specs.declared.restoring.Restored.{Restored}
+use Rattle.evenodd.specs.declared.restoring.Restored.the-variants as restored
+use Rattle.evenodd.specs.declared.shapes.Refusal.{Refusal}
+use Rattle.evenodd.specs.declared.shapes.Refusal.the-variants as refusal
+use Rattle.evenodd.specs.Refusals.{numberOf, Verdict, refuse, Gives}
+use Rattle.evenodd.specs.Restores.{restoreRules, Restores}
+use Rattle.evenodd.specs.Determined.{NewOne, RestoresOne}
+use Rattle.evenodd.proofs.Rules.{passes-not, refuse-one, gives-first, gives-next, gives-one}
+use Rattle.evenodd.proofs.Determined.{new-one}
+use Rattle.evenodd.proofs.Outcomes.{restores-one}
+use Rattle.image.specs.declared.answers.Read.the-variants as read
+use Rattle.image.specs.Reads.{contentsRules, Filled, ReadInto}
+use Rattle.image.specs.Determined.{ReadsOne}
+use Rattle.image.proofs.Determined.{reads-one}
+use Rattle.report.specs.declared.lines.Shape.{Shape}
+use Rattle.report.specs.declared.judging.Outcome.{Outcome}
+use Rattle.report.specs.declared.judging.Outcome.the-variants as outcome
+use Rattle.report.specs.declared.judging.Judgement.{Judgement}
+use Rattle.report.specs.Judgements.{Formed, verdictOf, partRules, Benches, JudgesParts, stripeOf, benchOf, formedRules}
+use Rattle.report.specs.Judgements.{InParts, Unwritten, Leaves, JudgesFormed, Rejected}
+use Rattle.report.specs.Theorems.{JudgesImageOne, ReportsOne, Enough}
+use Rattle.report.proofs.Judged.{by-contents, formed-good, not-stray, read-passes, skip}
+use Rattle.report.proofs.Told.{most}
+
+-- the refusals 2 and 3: no other refusal is one of them
+abbrev Short : Refusal → Type 0
+Short f = (f ≡ refusal.StripeLength) ⊎ (f ≡ refusal.BenchLength)
+
+abbrev isShort : Refusal → Bool
+isShort f = cond (eqb (numberOf f) 2) true (eqb (numberOf f) 3)
+
+clash : {f g : Refusal} → Short f → refuse f ≡ refuse g → isShort g ≡ false → ⊥
+clash {f} {g} (inl d) e n = true≢false (ap isShort (sym d ∙ refuse-one f g e) ∙ n)
+clash {f} {g} (inr d) e n = true≢false (ap isShort (sym d ∙ refuse-one f g e) ∙ n)
+
+-- two lists with the same first n bytes and the same bytes after them are one
+joined : (n : ℕ) {x y : List ℕ} → take n x ≡ take n y → drop n x ≡ drop n y → x ≡ y
+joined n {x} {y} e d = sym (take-append-drop n x) ∙ ap₂ (λ a b. a ++ b) e d ∙ take-append-drop n y
+
+-- ---- what is judged in parts
+
+-- the outcome by what restore answers
+abbrev outcomeBy : Shape → Restored → Outcome
+outcomeBy shape (restored.Columns n x y) = outcome.Complete shape
+outcomeBy shape (restored.Refused f) = outcome.Contradicted shape
+
+module _ {image : List ℕ} (s bench : List ℕ) {shape : Shape} {map : Map} (f : Formed image shape map) (few : absences (shape .k) (map .places) ≤ 2)
+    (long : length s ≡ stripeOf shape) (room : length bench ≡ benchOf shape) where
+  reads : {x : List ℕ} → Filled (shape .m) (shape .k) (shape .b) (map .places) image s x
+      → ReadInto image s x (record { answer = read.Shape (shape .m) (shape .k) (shape .b); map = map })
+  reads h = record { told = read-passes s f long; fills = (formed-good f .own, h) }
+
+  rules : {x : List ℕ} {v : Verdict} → length x ≡ length s → Gives (partRules shape map x) v
+      → Gives (restoreRules (shape .m) (shape .k) (shape .b) map x bench) v
+  rules e told =
+      let g = formed-good f in
+      gives-next (λ d. d (g .shape)) (gives-next (λ d. d (e ∙ long)) (gives-next (λ d. d room) (gives-next (not-stray g) (gives-next (λ q. omega arith) told))))
+
+  restores : (x y : List ℕ) (o : Outcome) → length x ≡ length s → Gives (partRules shape map x) (verdictOf o) → Benches shape map x bench y o
+      → (r : Restored) × Restores (shape .m) (shape .k) (shape .b) map x bench y r × (o ≡ outcomeBy shape r)
+  restores x y (outcome.Complete z) e told (same, c) =
+      (restored.Columns (c .count) (c .first) (c .second), record { told = rules e told; left = c .restored }, ap outcome.Complete same)
+  restores x y (outcome.Contradicted z) e told (same, c) =
+      (restored.Refused refusal.Contradicted, record { told = rules e told; left = c }, ap outcome.Contradicted same)
+  restores x y (outcome.Ambiguous z) e told b = absurd b
+  restores x y (outcome.Refused g) e told b = absurd b
+
+  parts-one : {x y z w : List ℕ} (o p : Outcome) → JudgesParts shape map image s x bench z o → JudgesParts shape map image s y bench w p
+      → (o ≡ p) × (x ≡ y) × (z ≡ w)
+  unfolding ReadsOne RestoresOne
+  parts-one {x} {y} {z} {w} o p u v =
+      let (_, same) = reads-one image s x y _ _ (reads (u .read)) (reads (v .read)) in
+      let (r, h, e) = restores x z o (u .read .size) (u .told) (u .benches) in
+      let (q, k, d) = restores y w p (v .read .size) (v .told) (v .benches) in
+      let (answer, bytes) = restores-one (shape .m) (shape .k) (shape .b) map x bench z w r q h (rw same k) in
+      (e ∙ ap (outcomeBy shape) answer ∙ sym d, same, bytes)
+
+-- ---- what is judged of a well-formed image
+
+-- the outcome of a refusal before the stripe is read
+abbrev early : Shape → Refusal → Outcome
+early shape f = cond (eqb (numberOf f) 4) (outcome.Ambiguous shape) (outcome.Refused f)
+
+module _ {image s bench after benched : List ℕ} {shape : Shape} {map : Map} (o : Outcome) (h : JudgesFormed shape map image s after bench benched o) where
+  -- such a refusal writes nothing
+  unwritten : (f : Refusal) → numberOf f < 5 → ((x : List ℕ) → Gives (formedRules shape map s bench x) (refuse f))
+      → (o ≡ early shape f) × Unwritten s after bench benched
+  unwritten f less gives = go o (gives-one (formedRules shape map s bench (take (stripeOf shape) after)) _ _ (h .told) (gives _)) (h .leaves)
+    where
+      go : (o : Outcome) → verdictOf o ≡ refuse f → Leaves shape map image s after bench benched o → (o ≡ early shape f) × Unwritten s after bench benched
+      go (outcome.Complete x) e l = absurd (passes-not f e)
+      go (outcome.Contradicted x) e l = absurd (let n = ap numberOf (refuse-one refusal.Contradicted f e) in omega arith)
+      go (outcome.Ambiguous x) e (same, w) = (ap outcome.Ambiguous same ∙ ap (early shape) (refuse-one refusal.Ambiguous f e), w)
+      go (outcome.Refused g) e (inl d, w) = (ap outcome.Refused d ∙ ap (early shape) (sym d ∙ refuse-one g f e), w)
+      go (outcome.Refused g) e (inr d, w) = (ap outcome.Refused d ∙ ap (early shape) (sym d ∙ refuse-one g f e), w)
+
+  -- what the last rule decides is judged in parts
+  in-parts : absences (shape .k) (map .places) ≤ 2 → stripeOf shape ≤ length s → benchOf shape ≤ length bench → InParts shape map image s after bench benched o
+  in-parts few long room = go o (skip (λ q. omega arith) (skip (λ q. omega arith) (skip (λ q. omega arith) (h .told)))) (h .leaves)
+    where
+      go : (o : Outcome) → Gives (partRules shape map (take (stripeOf shape) after)) (verdictOf o) → Leaves shape map image s after bench benched o
+          → InParts shape map image s after bench benched o
+      go (outcome.Complete y) told l = l
+      go (outcome.Contradicted y) told l = l
+      go (outcome.Ambiguous y) (inl p) l = absurd (let n = ap numberOf (refuse-one refusal.Ambiguous refusal.Contradicted (p .1)) in omega arith)
+      go (outcome.Ambiguous y) (inr p) l = absurd (passes-not refusal.Ambiguous (sym (p .1)))
+      go (outcome.Refused f) (inl p) l = absurd (clash (l .0) (p .1) refl)
+      go (outcome.Refused f) (inr p) l = absurd (passes-not f (sym (p .1)))
+
+module _ {image s bench after after′ benched benched′ : List ℕ} {shape : Shape} {map : Map} (f : Formed image shape map) (o p : Outcome)
+    (u : JudgesFormed shape map image s after bench benched o) (v : JudgesFormed shape map image s after′ bench benched′ p) where
+  abbrev Same : Type 0
+  Same = (o ≡ p) × (after ≡ after′) × (benched ≡ benched′)
+
+  refused : (g : Refusal) → numberOf g < 5 → ((x : List ℕ) → Gives (formedRules shape map s bench x) (refuse g)) → Same
+  refused g less gives =
+      let (a, x) = unwritten o u g less gives in
+      let (b, y) = unwritten p v g less gives in
+      (a ∙ sym b, x .whole ∙ sym (y .whole), x .spare ∙ sym (y .spare))
+
+  lent : absences (shape .k) (map .places) ≤ 2 → stripeOf shape ≤ length s → benchOf shape ≤ length bench → Same
+  lent few long room =
+      let a = in-parts o u few long room in
+      let b = in-parts p v few long room in
+      let n = length-take-le (stripeOf shape) s long in
+      let c = length-take-le (benchOf shape) bench room in
+      let (same, stripe, bytes) = parts-one (take (stripeOf shape) s) (take (benchOf shape) bench) f few n c o p (a .parts) (b .parts) in
+      (same, joined (stripeOf shape) stripe (a .rest ∙ sym (b .rest)), joined (benchOf shape) bytes (a .spare ∙ sym (b .spare)))
+
+  formed-one : Same
+  formed-one =
+      by-order Same 2 (absences (shape .k) (map .places))
+      (λ many. refused refusal.Ambiguous (omega arith) (λ x. gives-first many)) (λ few.
+      by-order Same (length s) (stripeOf shape)
+      (λ short. refused refusal.StripeLength (omega arith) (λ x. gives-next (λ q. omega arith) (gives-first short))) (λ long.
+      by-order Same (length bench) (benchOf shape)
+      (λ short. refused refusal.BenchLength (omega arith) (λ x. gives-next (λ q. omega arith) (gives-next (λ q. omega arith) (gives-first short))))
+      (λ room. lent few long room)))
+
+-- ---- what is judged of an image, and its report
+
+module _ {s bench after after′ benched benched′ : List ℕ} where
+  rejected-one : (f : Refusal) (r r′ : Judgement) → Rejected f s after bench benched r → Rejected f s after′ bench benched′ r′
+      → (r ≡ r′) × (after ≡ after′) × (benched ≡ benched′)
+  unfolding NewOne
+  rejected-one f r r′ u v = (
+    ap₂ (λ o m. record { outcome = o; map = m }) (u .outcome ∙ sym (v .outcome)) (new-one (r .map) (r′ .map) (u .map) (v .map)),
+    u .unwritten .whole ∙ sym (v .unwritten .whole),
+    u .unwritten .spare ∙ sym (v .unwritten .spare),
+  )
+
+pub judges-image-one : JudgesImageOne
+unfolding JudgesImageOne
+judges-image-one image s bench after after′ benched benched′ r r′ u v =
+    by-contents ((r ≡ r′) × (after ≡ after′) × (benched ≡ benched′)) (u .contents)
+    (λ l. rejected-one refusal.TooLong r r′ (u .long l) (v .long l))
+    (λ l f t. rejected-one f r r′ (u .bad l f t) (v .bad l f t))
+    (λ l shape map h.
+    let (m, j) = u .formed l shape map h in
+    let (n, k) = v .formed l shape map h in
+    let (same, stripe, bytes) = formed-one h (r .outcome) (r′ .outcome) j k in
+    (ap₂ (λ o m. record { outcome = o; map = m }) same (m ∙ sym n), stripe, bytes))
+
+pub reports-one : ReportsOne
+unfolding ReportsOne JudgesImageOne
+reports-one image s bench before after after′ benched benched′ out out′ r r′ u v =
+    let (same, stripe, bytes) = judges-image-one image s bench after after′ benched benched′ _ _ (u .judged) (v .judged) in
+    let text : take r out ≡ take r′ out′ = u .text ∙ rw (same, stripe, bytes) refl ∙ sym (v .text) in
+    let size : r ≡ r′ = sym (length-take-le r out (u .within)) ∙ ap length text ∙ length-take-le r′ out′ (v .within) in
+    let rest : drop r′ out ≡ drop r′ out′ = rw size at (u .rest) ∙ sym (v .rest) in
+    (size, joined r′ (rw size at text) rest, stripe, bytes, same)
+
+-- ---- what is never judged where enough is lent
+
+module _ {f : Refusal} (short : Short f) where
+  -- the contents are not refused by 2 or 3
+  not-contents : (image : List ℕ) → Gives (contentsRules image) (refuse f) → ⊥
+  not-contents image (inl p) = clash short (p .1) refl
+  not-contents image (inr (_, inl p)) = clash short (p .1) refl
+  not-contents image (inr (_, inr (_, inl p))) = clash short (p .1) refl
+  not-contents image (inr (_, inr (_, inr p))) = passes-not f (sym (p .1))
+
+  -- nor is a well-formed image, if its stripe and its bench have room
+  not-formed : (shape : Shape) (map : Map) (s bench x : List ℕ)
+      → (absences (shape .k) (map .places) ≤ 2 → (stripeOf shape ≤ length s) × (benchOf shape ≤ length bench))
+      → Gives (formedRules shape map s bench x) (refuse f) → ⊥
+  not-formed shape map s bench x fits (inl p) = clash short (p .1) refl
+  not-formed shape map s bench x fits (inr (few, inl p)) = omega (arith, p .0, fits (omega arith) .0)
+  not-formed shape map s bench x fits (inr (few, inr (_, inl p))) = omega (arith, p .0, fits (omega arith) .1)
+  not-formed shape map s bench x fits (inr (few, inr (_, inr (_, inl p)))) = clash short (p .1) refl
+  not-formed shape map s bench x fits (inr (few, inr (_, inr (_, inr p)))) = passes-not f (sym (p .1))
+
+pub enough : Enough
+unfolding Enough
+enough image s after bench benched r long room h = (none refusal.StripeLength (inl refl), none refusal.BenchLength (inr refl))
+  where
+    fits : length image ≤ 16384 → (shape : Shape) (map : Map) → Formed image shape map → absences (shape .k) (map .places) ≤ 2
+        → (stripeOf shape ≤ length s) × (benchOf shape ≤ length bench)
+    fits l shape map formed few = let (stripe, double) = most (formed-good formed) l few in (omega arith, omega arith)
+
+    none : (f : Refusal) → Short f → r .outcome ≡ outcome.Refused f → ⊥
+    none f short e =
+        by-contents ⊥ (h .contents)
+        (λ l. clash short (ap verdictOf (sym e ∙ h .long l .outcome)) refl)
+        (λ l g t. not-contents short image (rw (ap verdictOf (sym e ∙ h .bad l g t .outcome)) t))
+        (λ l shape map formed. not-formed short shape map s bench _ (fits l shape map formed) (rw e at (h .formed l shape map formed .1 .told)))

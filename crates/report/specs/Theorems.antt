@@ -1,0 +1,28 @@
+-- What follows from the promises of the report. Each statement is a type, which proofs/Theorems inhabits.
+--   JudgesImageOne   two judgements that meet the promise are equal, and so are the stripe and the bench after them
+--   ReportsOne       two reports that meet the promise are equal: the length, `out`, the stripe and the bench, and what was judged
+--   Enough           a stripe of 49,056 bytes and a bench of 32,704 are enough for every image: the refusals 2 and 3 are never given
+use mathlib.Core.Path.{_≡_}
+use mathlib.Core.Logic.{_≢_}
+use mathlib.Core.List.{List}
+use Prim.Native.Nat.{ℕ, _≤_}
+use lib.ListN.{length}
+use Rattle.evenodd.specs.declared.shapes.Refusal.the-variants.{StripeLength, BenchLength}
+use Rattle.report.specs.declared.judging.Outcome.the-variants.{Refused}
+use Rattle.report.specs.declared.judging.Judgement.{Judgement}
+use Rattle.report.specs.Judgements.{JudgesImage}
+use Rattle.report.specs.Reports.{Reports}
+
+unfoldable pub JudgesImageOne : Type 0
+JudgesImageOne = (image s bench after after′ benched benched′ : List ℕ) (r r′ : Judgement)
+    → JudgesImage image s after bench benched r → JudgesImage image s after′ bench benched′ r′
+    → (r ≡ r′) × (after ≡ after′) × (benched ≡ benched′)
+
+unfoldable pub ReportsOne : Type 0
+ReportsOne = (image s bench before after after′ benched benched′ out out′ : List ℕ) (r r′ : ℕ)
+    → (u : Reports image s after bench benched before out r) (v : Reports image s after′ bench benched′ before out′ r′)
+    → (r ≡ r′) × (out ≡ out′) × (after ≡ after′) × (benched ≡ benched′) × (u .judgement ≡ v .judgement)
+
+unfoldable pub Enough : Type 0
+Enough = (image s after bench benched : List ℕ) (r : Judgement) → 49056 ≤ length s → 32704 ≤ length bench → JudgesImage image s after bench benched r
+    → (r .outcome ≢ Refused StripeLength) × (r .outcome ≢ Refused BenchLength)
