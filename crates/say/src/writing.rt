@@ -3,7 +3,7 @@
 use evenodd::Map;
 
 // The bytes of a word.
-pub(crate) fn say(out: &mut [u8], at: usize, word: &[u8]) -> usize {
+pub fn say_word(out: &mut [u8], at: usize, word: &[u8]) -> usize {
     if out.len() < word.len() {
         return at;
     }
@@ -11,6 +11,12 @@ pub(crate) fn say(out: &mut [u8], at: usize, word: &[u8]) -> usize {
         return at;
     }
     text::put_word(out, at, word)
+}
+
+// Two words: the name of a case, and what is asked.
+pub(crate) fn say_head(out: &mut [u8], at: usize, name: &[u8], asked: &[u8]) -> usize {
+    let next = say_word(out, at, name);
+    say_word(out, next, asked)
 }
 
 // A space and a number, which is below 10,000.
@@ -29,7 +35,7 @@ pub(crate) fn say_number(out: &mut [u8], at: usize, n: usize) -> usize {
 }
 
 // A space and bytes in hexadecimal, at most 100 of them.
-pub(crate) fn say_bytes(out: &mut [u8], at: usize, bytes: &[u8]) -> usize {
+pub fn say_bytes(out: &mut [u8], at: usize, bytes: &[u8]) -> usize {
     if 100 < bytes.len() {
         return at;
     }

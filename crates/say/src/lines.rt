@@ -1,16 +1,14 @@
 // A line for each operation, in the form `CASE OPERATION ANSWER`.
-use crate::writing::say;
 use crate::writing::say_bytes;
-use crate::writing::say_map;
+use crate::writing::say_head;
 use crate::writing::say_number;
+use crate::writing::say_word;
 use evenodd::Checked;
 use evenodd::Encoded;
 use evenodd::Map;
 use evenodd::Mended;
 use evenodd::Place;
 use evenodd::Restored;
-use image::Contents;
-use image::Read;
 
 // Two numbers.
 fn say_two(out: &mut [u8], at: usize, x: usize, y: usize) -> usize {
@@ -25,15 +23,15 @@ fn say_three(out: &mut [u8], at: usize, x: usize, y: usize, z: usize) -> usize {
 }
 
 // Four numbers.
-fn say_four(out: &mut [u8], at: usize, w: usize, x: usize, y: usize, z: usize) -> usize {
+pub(crate) fn say_four(out: &mut [u8], at: usize, w: usize, x: usize, y: usize, z: usize) -> usize {
     let next = say_number(out, at, w);
     say_three(out, next, x, y, z)
 }
 
 // Bytes, and the end of the line.
-fn say_last(out: &mut [u8], at: usize, bytes: &[u8]) -> usize {
+pub(crate) fn say_last(out: &mut [u8], at: usize, bytes: &[u8]) -> usize {
     let next = say_bytes(out, at, bytes);
-    say(out, next, b"\n")
+    say_word(out, next, b"\n")
 }
 
 fn say_encoded(out: &mut [u8], at: usize, answer: Encoded) -> usize {
@@ -44,7 +42,7 @@ fn say_encoded(out: &mut [u8], at: usize, answer: Encoded) -> usize {
 }
 
 // Encodes: the answer and the stripe.
-pub(crate) fn encode_line(
+pub fn encode_line(
     out: &mut [u8],
     at: usize,
     name: &[u8],
@@ -53,11 +51,10 @@ pub(crate) fn encode_line(
     b: usize,
     stripe: &mut [u8],
 ) -> usize {
-    let first = say(out, at, name);
-    let second = say(out, first, b" encode");
+    let first = say_head(out, at, name, b" encode");
     let answer = evenodd::encode(m, k, b, stripe);
-    let third = say_encoded(out, second, answer);
-    say_last(out, third, stripe)
+    let second = say_encoded(out, first, answer);
+    say_last(out, second, stripe)
 }
 
 fn say_checked(out: &mut [u8], at: usize, answer: Checked) -> usize {
@@ -69,7 +66,7 @@ fn say_checked(out: &mut [u8], at: usize, answer: Checked) -> usize {
 }
 
 // Checks: the answer and the two counts.
-pub(crate) fn check_line(
+pub fn check_line(
     out: &mut [u8],
     at: usize,
     name: &[u8],
@@ -78,11 +75,10 @@ pub(crate) fn check_line(
     b: usize,
     stripe: &[u8],
 ) -> usize {
-    let first = say(out, at, name);
-    let second = say(out, first, b" check");
+    let first = say_head(out, at, name, b" check");
     let answer = evenodd::check(m, k, b, stripe);
-    let third = say_checked(out, second, answer);
-    say(out, third, b"\n")
+    let second = say_checked(out, first, answer);
+    say_word(out, second, b"\n")
 }
 
 fn say_restored(out: &mut [u8], at: usize, answer: Restored) -> usize {
@@ -97,7 +93,7 @@ fn say_restored(out: &mut [u8], at: usize, answer: Restored) -> usize {
 }
 
 // Restores: the answer, how many columns and which, and the bench.
-pub(crate) fn restore_line(
+pub fn restore_line(
     out: &mut [u8],
     at: usize,
     name: &[u8],
@@ -108,11 +104,10 @@ pub(crate) fn restore_line(
     stripe: &[u8],
     bench: &mut [u8],
 ) -> usize {
-    let first = say(out, at, name);
-    let second = say(out, first, b" restore");
+    let first = say_head(out, at, name, b" restore");
     let answer = evenodd::restore(m, k, b, map, stripe, bench);
-    let third = say_restored(out, second, answer);
-    say_last(out, third, bench)
+    let second = say_restored(out, first, answer);
+    say_last(out, second, bench)
 }
 
 fn say_placed(out: &mut [u8], at: usize, answer: Place) -> usize {
@@ -124,7 +119,7 @@ fn say_placed(out: &mut [u8], at: usize, answer: Place) -> usize {
 }
 
 // Shows: the answer, whether it is from the bench, where it starts and how long it is.
-pub(crate) fn show_line(
+pub fn show_line(
     out: &mut [u8],
     at: usize,
     name: &[u8],
@@ -136,26 +131,10 @@ pub(crate) fn show_line(
     bench: &[u8],
     column: usize,
 ) -> usize {
-    let first = say(out, at, name);
-    let second = say(out, first, b" show");
+    let first = say_head(out, at, name, b" show");
     let answer = evenodd::place_of(m, k, b, map, stripe, bench, column);
-    let third = say_placed(out, second, answer);
-    say(out, third, b"\n")
-}
-
-// The answer, the shape and the map of an image.
-pub(crate) fn say_contents(out: &mut [u8], at: usize, found: Contents) -> usize {
-    let map = found.map;
-    let answer = found.answer;
-    let next = say_read(out, at, answer);
-    say_map(out, next, map)
-}
-
-fn say_read(out: &mut [u8], at: usize, answer: Read) -> usize {
-    match answer {
-        Read::Shape { m, k, b } => say_four(out, at, 0, m, k, b),
-        Read::Refused(f) => say_four(out, at, f.number() as usize, 0, 0, 0),
-    }
+    let second = say_placed(out, first, answer);
+    say_word(out, second, b"\n")
 }
 
 fn say_mended(out: &mut [u8], at: usize, answer: Mended) -> usize {
@@ -167,7 +146,7 @@ fn say_mended(out: &mut [u8], at: usize, answer: Mended) -> usize {
 }
 
 // Mends: the answer, the column and the stripe.
-pub(crate) fn mend_line(
+pub fn mend_line(
     out: &mut [u8],
     at: usize,
     name: &[u8],
@@ -176,9 +155,8 @@ pub(crate) fn mend_line(
     b: usize,
     stripe: &mut [u8],
 ) -> usize {
-    let first = say(out, at, name);
-    let second = say(out, first, b" mend");
+    let first = say_head(out, at, name, b" mend");
     let answer = evenodd::mend(m, k, b, stripe);
-    let third = say_mended(out, second, answer);
-    say_last(out, third, stripe)
+    let second = say_mended(out, first, answer);
+    say_last(out, second, stripe)
 }
