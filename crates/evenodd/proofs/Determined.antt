@@ -10,6 +10,7 @@ use native.Mathlib.Omega.{arith}
 use denote.Ref.{RefT, now}
 use lib.Dec.{eqb}
 use lib.Seq.{ext-getD}
+use Rattle.marks.proofs.Absent.{past-all}
 use Rattle.evenodd.specs.declared.maps.Marked.the-variants as marked
 use Rattle.evenodd.specs.declared.shapes.Judged.the-variants as judged
 use Rattle.evenodd.specs.declared.showing.Place.{Place}
@@ -20,7 +21,7 @@ use Rattle.evenodd.specs.Maps.{placeRules}
 use Rattle.evenodd.specs.Shows.{showRules, Places, PartOf, PartAt}
 use Rattle.evenodd.specs.Determined.{JudgesOne, NewOne, OfBytesOne, AsBytesOne, MarksOne, MarkedTwice, JudgesPlaceOne, PlacesOne, SamePart, ShowsOne, PlacesUnread, ShowsUnread}
 use Rattle.evenodd.proofs.Rules.{passes-not, refuse-one, gives-one}
-use Rattle.evenodd.proofs.Presence.{same-map, past-all}
+use Rattle.evenodd.proofs.Presence.{same-map}
 
 pub judges-one : JudgesOne
 unfolding JudgesOne

@@ -2,17 +2,18 @@
 --   mended-intact     no lane breaks: the stripe is valid
 --   mended-column     the columns other than u fit, and column u was rewritten: the stripe is valid, and differed in exactly that column
 --   unmendable        no column's others fit: no valid stripe differs in at most one column
+--   mend-answer       what mend says
 use mathlib.Core.Path.{_≡_, refl, sym, ap, _∙_}
 use mathlib.Core.Logic.{_≢_, by-cases}
 use mathlib.Core.Bool.{Bool, true, false}
 use mathlib.Core.List.{List}
-use Prim.Native.Nat.{ℕ, _+_, _-_, _*_, _≤_, _<_}
+use Prim.Native.Nat.{ℕ, _+_, _-_, _≤_, _<_}
 use native.Mathlib.Decide.{ℕ-discrete}
 use native.Mathlib.Omega.{arith}
 use lib.Dec.{eqb}
 use lib.ListN.{length}
 use borrow.Author.Tests.{eq-eqb, ne-eqb}
-use Rattle.parity.specs.Shape.{Shape, stripeLength}
+use Rattle.parity.specs.Shape.{Shape}
 use Rattle.parity.specs.Equations.{Holds}
 use Rattle.parity.specs.Stripe.{byte, lane, Stripe, Valid}
 use Rattle.parity.specs.Presence.{differs, differing, DifferIn}
@@ -23,16 +24,23 @@ use Rattle.parity.proofs.Columns.{same-column, column-same}
 use Rattle.parity.proofs.Count.{one-pass, few-pass}
 use Rattle.parity.proofs.Theorems.{few-differ}
 use Rattle.parity.proofs.Fits.{rewritten, rewritten-byte, rewritten-other, fits-valid, valid-fits}
-use Rattle.lines.specs.declared.Grid.{Grid}
+use Rattle.blame.specs.declared.Suspect.{Suspect}
+use Rattle.blame.specs.declared.Suspect.the-variants.{Nothing, Column, Nobody}
+use Rattle.repair.specs.Patches.{Patches}
 use Rattle.evenodd.specs.declared.mending.Mended.{Mended}
 use Rattle.evenodd.specs.declared.mending.Mended.the-variants as mended
 use Rattle.evenodd.specs.declared.shapes.Refusal.the-variants.{Unmendable}
-use Rattle.evenodd.specs.Refusals.{pass, refuse}
+use Rattle.evenodd.specs.Refusals.{Verdict, Gives}
 use Rattle.evenodd.specs.Shapes.{stripeRules}
-use Rattle.evenodd.specs.Mends.{blameRules, Mends}
-use Rattle.evenodd.specs.Blamed.{Blamed, Patched}
+use Rattle.evenodd.specs.Mends.{blameRules, mendRules, Mends}
 use Rattle.evenodd.proofs.Rules.{gives-first, gives-next, gives-after}
 use Rattle.evenodd.proofs.Stripe.{stripe-passed}
+
+-- the answer that each suspect brings
+abbrev pub mendedBy : Suspect → Mended
+mendedBy Nothing = mended.Intact
+mendedBy (Column u) = mended.Column u
+mendedBy Nobody = mended.Refused Unmendable
 
 module _ (m k b : ℕ) (h : Shape m k b) (s : List ℕ) where
   -- what can't be fitted with any column left out can't be mended
@@ -80,24 +88,18 @@ module _ (m k b : ℕ) (h : Shape m k b) (s : List ℕ) where
       pub mended-column : (u < k + 2) × Valid m k b after × DifferIn m k b (eqb u) s after
       mended-column = (hu, valid, differ)
 
--- ---- what the loops below ask for, and what mend's last rule and its answer ask for
+-- ---- what mend says
 
-pub blamed-length : {g : Grid} {k : ℕ} {s : List ℕ} → Blamed g k s → length s ≡ (k + 2) * g .column
-unfolding stripeLength
-blamed-length {k = k} p = p .stripe ∙ sym (ap (λ (n : ℕ). (k + 2) * n) (p .column))
+module _ (m k b : ℕ) (s after : List ℕ) (h : Shape m k b) (st : Stripe m k b s) where
+  rules : {v : Verdict} → Gives (blameRules m k b s) v → Gives (mendRules m k b s) v
+  rules g = gives-after (stripeRules m k b s) (blameRules m k b s) _ (stripe-passed m k b s h (st .whole)) g
 
-pub mend-answer : (m k b : ℕ) (s after : List ℕ) → Shape m k b → length s ≡ stripeLength m k b → (r : Mended) → Patched m k b s after r → Mends m k b s after r
-unfolding differing
-mend-answer m k b s after h stripe mended.Intact f = record {
-  told = gives-after (stripeRules m k b s) (blameRules m k b s) pass (stripe-passed m k b s h stripe)
-      (gives-next (λ c. c s (f .0) (few-pass (k + 2) 0 (differs m b s s) (λ t ht ne. column-same m b s s t (λ l i hl hi. refl)))) refl);
-  rewritten = f;
-}
-mend-answer m k b s after h stripe (mended.Column u) f = record {
-  told = gives-after (stripeRules m k b s) (blameRules m k b s) pass (stripe-passed m k b s h stripe) (gives-next (λ c. c after (f .1) (few-differ m k b u s after (f .2))) refl);
-  rewritten = f;
-}
-mend-answer m k b s after h stripe (mended.Refused r) f = record {
-  told = rw (f .0) (gives-after (stripeRules m k b s) (blameRules m k b s) (refuse Unmendable) (stripe-passed m k b s h stripe) (gives-first (f .1)));
-  rewritten = f .2;
-}
+  pub mend-answer : (r : Suspect) → Patches m k b s after r → Mends m k b s after (mendedBy r)
+  unfolding differing
+  mend-answer Nothing f =
+      let v = mended-intact m k b h s st (f .0) in
+      record { told = rules (gives-next (λ c. c s v (few-pass (k + 2) 0 (differs m b s s) (λ t ht ne. column-same m b s s t (λ l i hl hi. refl)))) refl); rewritten = (v, f .1) }
+  mend-answer (Column u) f =
+      let r = mended-column m k b h s st u (f .inside) (f .fits) (f .broken) after (f .rewrote .size) (f .rewrote .inside) (f .rewrote .other) in
+      record { told = rules (gives-next (λ c. c after (r .1) (few-differ m k b u s after (r .2))) refl); rewritten = r }
+  mend-answer Nobody f = record { told = rules (gives-first (unmendable m k b h s (f .0))); rewritten = f .1 }

@@ -18,6 +18,7 @@ use Rattle.parity.proofs.Bytes.{stripe-ext}
 use Rattle.parity.proofs.Columns.{same-column, column-same}
 use Rattle.parity.proofs.Stripes.{stripe-determined}
 use Rattle.parity.proofs.Theorems.{frame, served, at-most-one, absent-unread, one-wrong, near, few-differ}
+use Rattle.marks.proofs.Absent.{nth-one}
 use Rattle.evenodd.specs.declared.checking.Checked.the-variants as checked
 use Rattle.evenodd.specs.declared.encoding.Encoded.the-variants as encoded
 use Rattle.evenodd.specs.declared.maps.Map.{Map}
@@ -32,7 +33,6 @@ use Rattle.evenodd.specs.Determined.{EncodesOne, ChecksOne, RestoresOne,
 use Rattle.evenodd.proofs.Rules.{passes-not, refuse-one, equal-of, gives-one, passed-first, gives-passed, Alike, gives-alike}
 use Rattle.evenodd.proofs.Shape.{passed-shape}
 use Rattle.evenodd.proofs.Stripe.{stripe-given}
-use Rattle.evenodd.proofs.Presence.{nth-one}
 
 -- ---- encode and check
 

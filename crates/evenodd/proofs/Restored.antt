@@ -2,51 +2,48 @@
 --   restored-none     none absent: the columns fit, and nothing is written
 --   restored-one      one absent: the others fit
 --   restored-two      two absent: exactly one valid stripe agrees
---   gapped-…          what the loops below ask for
 --   contradicted      the columns other than the absent one, if there is one, don't fit: no valid stripe agrees
+--   restore-…         what restore says on each way out, and what it asks for
 use mathlib.Core.Path.{_≡_, refl, sym, ap, _∙_}
 use mathlib.Core.Logic.{_≢_, by-cases}
-use mathlib.Core.Bool.{Bool, true, cond, true≢false}
-use mathlib.Core.List.{List}
-use Prim.Native.Nat.{ℕ, _+_, _-_, _*_, _≤_, _<_}
-use native.Mathlib.Decide.{decLt}
+use mathlib.Core.Bool.{Bool, true, false, cond, true≢false}
+use mathlib.Core.List.{List, [], _∷_, _++_}
+use Prim.Native.Nat.{ℕ, _+_, _-_, _≤_, _<_}
+use native.Mathlib.Decide.{ℕ-discrete, decLt}
 use native.Mathlib.Omega.{arith}
 use lib.Dec.{ltb}
 use lib.ListN.{length}
-use Rattle.parity.specs.Shape.{Shape, stripeLength, benchLength}
+use Rattle.parity.specs.Shape.{Shape}
 use Rattle.parity.specs.Stripe.{byte, Stripe, Valid}
-use Rattle.parity.specs.Presence.{present, absences, Agrees}
+use Rattle.parity.specs.Presence.{present, Agrees}
 use Rattle.parity.specs.Candidate.{FitsBut}
 use Rattle.parity.specs.Theorems.{ExactlyOne}
 use Rattle.parity.proofs.Columns.{same-column, column-same}
 use Rattle.parity.proofs.Fits.{rewritten, rewritten-other, fits-valid, valid-fits}
 use Rattle.parity.proofs.Theorems.{exactly-one}
-use Rattle.lines.specs.declared.Grid.{Grid}
-use Rattle.walk.specs.Walk.{Reaches}
-use Rattle.walk.proofs.Callers.{reaches}
-use Rattle.columns.specs.Columns.{Ready}
-use Rattle.evenodd.specs.declared.maps.Gaps.{Gaps}
+use Rattle.marks.specs.declared.Gaps.{Gaps}
+use Rattle.marks.specs.Absent.{absentBelow, NthAbsent, Counts}
+use Rattle.marks.proofs.Absent.{absences-below, below-under, others-present}
+use Rattle.repair.specs.Fills.{Gapped, Filled, Fills}
 use Rattle.evenodd.specs.declared.maps.Map.{Map}
-use Rattle.evenodd.specs.declared.restoring.Restored.{Restored}
 use Rattle.evenodd.specs.declared.restoring.Restored.the-variants.{Columns, Refused}
-use Rattle.evenodd.specs.declared.shapes.Refusal.the-variants.{Contradicted}
-use Rattle.evenodd.specs.Refusals.{pass, refuse}
-use Rattle.evenodd.specs.Gapped.{Gapped, Filled}
-use Rattle.evenodd.specs.Maps.{Stray, NthAbsent, absentBelow}
-use Rattle.evenodd.specs.Restores.{benchRules, Benched, RestoredFrom, Restores}
-use Rattle.evenodd.proofs.Rules.{gives-first, gives-next}
-use Rattle.evenodd.proofs.Shape.{after-shape}
-use Rattle.evenodd.proofs.Presence.{absences-below, below-under, others-present}
-use Rattle.evenodd.proofs.Stripe.{sized}
+use Rattle.evenodd.specs.declared.shapes.Judged.{Judged}
+use Rattle.evenodd.specs.declared.shapes.Judged.the-variants as judged
+use Rattle.evenodd.specs.declared.shapes.Refusal.{Refusal}
+use Rattle.evenodd.specs.declared.shapes.Refusal.the-variants.{Ambiguous, Contradicted}
+use Rattle.evenodd.specs.Refusals.{Verdict, Rule, Gives}
+use Rattle.evenodd.specs.Shapes.{refusalOf}
+use Rattle.evenodd.specs.Maps.{TooManyAbsent}
+use Rattle.evenodd.specs.Tests.{stripeTests, lentTests, JudgesLent}
+use Rattle.evenodd.specs.Restores.{restoreRules, Benched, RestoredFrom, Restores}
+use Rattle.evenodd.proofs.Rules.{gives-first, gives-next, gives-after}
+use Rattle.evenodd.proofs.Tests.{Lent, told-refused}
 
 module _ (m k b : ℕ) (h : Shape m k b) (map : List Bool) (s : List ℕ) (st : Stripe m k b s) (n first second : ℕ)
     (counted : n ≡ absentBelow (k + 2) map) (lowest : NthAbsent (k + 2) 0 map first) (other : NthAbsent (k + 2) 1 map second) where
-  -- a present column is none of the absent ones
+  -- a present column is not the absent one
   not-first : 0 < n → (t : ℕ) → present map t ≡ true → t ≢ first
   not-first some t p e = true≢false (sym p ∙ ap (present map) e ∙ lowest .found (omega arith) .1)
-
-  not-second : 1 < n → (t : ℕ) → present map t ≡ true → t ≢ second
-  not-second some t p e = true≢false (sym p ∙ ap (present map) e ∙ other .found (omega arith) .1)
 
   -- with at most one absent, every column but `first` is present
   but-first : n ≤ 1 → (t : ℕ) → t < k + 2 → t ≢ first → present map t ≡ true
@@ -117,49 +114,77 @@ module _ (m k b : ℕ) (h : Shape m k b) (map : List Bool) (s : List ℕ) (st : 
         };
       }
 
--- ---- what the loops below ask for
+-- ---- what restore asks for, and what it says
 
-module _ {g : Grid} {k : ℕ} {map : List Bool} {gaps : Gaps} {s bench : List ℕ} (p : Gapped g k map gaps s bench) where
-  pub gapped-length : length s ≡ (k + 2) * g .column
-  unfolding stripeLength
-  gapped-length = p .stripe ∙ sym (ap (λ (n : ℕ). (k + 2) * n) (p .column))
+-- two absent columns, the lower one first
+order : (n : ℕ) (map : List Bool) (gaps : Gaps) → Counts n map gaps → gaps .count ≡ 2 → (gaps .first < gaps .second) × (gaps .second < n)
+order n map gaps counts e =
+    let low = counts .first .found (omega (arith, counts .count)) in
+    let high = counts .second .found (omega (arith, counts .count)) in
+    let below : gaps .first < gaps .second = by-cases (decLt (gaps .first) (gaps .second)) (λ l. l) (λ n.
+    by-cases (decLt (gaps .second) (gaps .first))
+    (λ l. absurd (let z = below-under map (gaps .second) (gaps .first) (high .1) l in omega (arith, low .2, high .2)))
+    (λ q. absurd (let z : gaps .first ≡ gaps .second = omega arith in let y = ap (λ t. absentBelow t map) z in omega (arith, low .2, high .2)))) in
+    (below, high .0)
 
-  pub gapped-ready : Ready (g .m) k (g .b) (g .column) (length s) (length bench)
-  unfolding benchLength
-  gapped-ready = record {
-    sized = sized (p .shape) (p .column);
-    some = p .shape .real;
-    few = p .shape .few;
-    stripe = gapped-length;
-    bench = p .held ∙ sym (ap (λ (n : ℕ). 2 * n) (p .column));
+-- restore's rules after the tests that it shares with show
+abbrev lastRules : ℕ → ℕ → ℕ → List Bool → List ℕ → List Rule
+lastRules m k b map s =
+    record { condition = TooManyAbsent k map; refusal = Ambiguous }
+    ∷ record { condition = (v : List ℕ) → Valid m k b v → Agrees m k b map s v → ⊥; refusal = Contradicted }
+    ∷ []
+
+module _ (m k b : ℕ) (map : Map) (s before : List ℕ) where
+  pub restore-refused : (j : Judged) {f g : Refusal} → JudgesLent m k b (map .places) (length s) (length before) j → j ≡ judged.Refused f → g ≡ refusalOf j
+      → Restores m k b map s before before (Refused g)
+  restore-refused j h e q = record {
+    told = told-refused (stripeTests m k b (length s) ++ lentTests m k b (map .places) (length before)) (lastRules m k b (map .places) s) j (h .told) e q;
+    left = refl;
   }
 
-  -- two absent columns, the lower one first
-  pub gapped-order : gaps .count ≡ 2 → (gaps .first < gaps .second) × (gaps .second < k + 2)
-  gapped-order e =
-      let low = p .counts .first .found (omega (arith, p .counts .count)) in
-      let high = p .counts .second .found (omega (arith, p .counts .count)) in
-      let order : gaps .first < gaps .second = by-cases (decLt (gaps .first) (gaps .second)) (λ l. l) (λ n.
-      by-cases (decLt (gaps .second) (gaps .first))
-      (λ l. absurd (let z = below-under map (gaps .second) (gaps .first) (high .1) l in omega (arith, low .2, high .2)))
-      (λ q. absurd (let z : gaps .first ≡ gaps .second = omega arith in let y = ap (λ t. absentBelow t map) z in omega (arith, low .2, high .2)))) in
-      (order, high .0)
+  module _ {c : ℕ} (lent : Lent m k b (length s) (map .places) (length before) c) (gaps : Gaps) (counts : Counts (k + 2) (map .places) gaps) where
+    rules : {v : Verdict} → Gives (lastRules m k b (map .places) s) v → Gives (restoreRules m k b map s before) v
+    rules g = gives-after (stripeTests m k b (length s) ++ lentTests m k b (map .places) (length before)) (lastRules m k b (map .places) s) _ (lent .tests) g
 
-  pub gapped-reaches : gaps .count ≡ 2 → gaps .second < k → Reaches (g .m) (gaps .second - gaps .first)
-  gapped-reaches e l =
-      let (order, _) = gapped-order e in
-      reaches (p .shape .value .prime) (omega arith) (omega (arith, p .shape .few))
+    pub restore-ambiguous : 2 < gaps .count → Restores m k b map s before before (Refused Ambiguous)
+    restore-ambiguous l = record { told = rules (gives-first (let e = absences-below k (map .places) in omega (arith, counts .count))); left = refl }
 
--- what restore_gaps says is what restore's last rule and its answer ask for
-pub restore-answer : (m k b : ℕ) (map : Map) (s before after : List ℕ) → Shape m k b → length s ≡ stripeLength m k b → length before ≡ benchLength m b
-    → (Stray k (map .places) → ⊥) → absences k (map .places) ≤ 2 → (r : Restored) → Filled m k b (map .places) s before after r → Restores m k b map s before after r
-restore-answer m k b map s before after h stripe held clear few (Columns n first second) f = record {
-  told = after-shape m k b (benchRules m k b map s before) pass h
-      (gives-next (λ c. c stripe) (gives-next (λ c. c held) (gives-next clear (gives-next (λ c. omega arith) (gives-next (λ c. c (f .stripe) (f .valid) (f .agrees)) refl)))));
-  left = f;
-}
-restore-answer m k b map s before after h stripe held clear few (Refused r) f = record {
-  told = rw (f .0) (after-shape m k b (benchRules m k b map s before) (refuse Contradicted) h
-      (gives-next (λ c. c stripe) (gives-next (λ c. c held) (gives-next clear (gives-next (λ c. omega arith) (gives-first (f .1)))))));
-  left = f .2;
-}
+    module _ (few : gaps .count ≤ 2) where
+      pub restore-gapped : Gapped (record { m = m; b = b; column = c }) k gaps s before
+      restore-gapped = record {
+        shape = lent .numbers .shape;
+        column = lent .numbers .column;
+        stripe = lent .numbers .stripe;
+        held = lent .held;
+        few = few;
+        one = λ e. counts .first .found (omega (arith, counts .count)) .0;
+        two = order (k + 2) (map .places) gaps counts;
+      }
+
+      not-many : TooManyAbsent k (map .places) → ⊥
+      not-many l = let e = absences-below k (map .places) in omega (arith, counts .count)
+
+      module _ (st : Stripe m k b s) (after : List ℕ) where
+        pub restore-contradicted : Fills m k b gaps s before after false → Restores m k b map s before after (Refused Contradicted)
+        restore-contradicted f = record {
+          told = rules (gives-next not-many (gives-first
+              (contradicted m k b (lent .numbers .shape) (map .places) s st (gaps .count) (gaps .first) (gaps .second) (counts .count) (counts .first) (counts .second) (f .0) (f .1))));
+          left = f .2;
+        }
+
+        from-filled : Filled m k b gaps s before after → RestoredFrom m k b (map .places) s before after (gaps .count) (gaps .first) (gaps .second)
+        from-filled f = by-count (ℕ-discrete (gaps .count) 2) (ℕ-discrete (gaps .count) 1)
+          where
+            by-count : Dec (gaps .count ≡ 2) → Dec (gaps .count ≡ 1) → RestoredFrom m k b (map .places) s before after (gaps .count) (gaps .first) (gaps .second)
+            by-count (yes e) _ =
+                restored-two m k b (lent .numbers .shape) (map .places) s st (gaps .count) (gaps .first) (gaps .second) (counts .count) (counts .first) (counts .second) e before after (f .two e .size) (f .two e .both)
+            by-count (no _) (yes e) =
+                restored-one m k b (lent .numbers .shape) (map .places) s st (gaps .count) (gaps .first) (gaps .second) (counts .count) (counts .first) (counts .second) e (f .fits (omega arith)) before after (f .one e .size) (f .one e .first) (f .one e .second)
+            by-count (no n) (no o) =
+                let z : gaps .count ≡ 0 = by-cases (decLt 0 (gaps .count)) (λ l. absurd (by-cases (decLt 1 (gaps .count)) (λ c. n (omega arith)) (λ c. o (omega arith)))) (λ l. omega arith) in
+                rw (f .none z) (restored-none m k b (lent .numbers .shape) (map .places) s st (gaps .count) (gaps .first) (gaps .second) (counts .count) (counts .first) (counts .second) z (f .fits (omega arith)) before)
+
+        pub restore-columns : Filled m k b gaps s before after → Restores m k b map s before after (Columns (gaps .count) (gaps .first) (gaps .second))
+        restore-columns f =
+            let r = from-filled f in
+            record { told = rules (gives-next not-many (gives-next (λ c. c (r .stripe) (r .valid) (r .agrees)) refl)); left = r }

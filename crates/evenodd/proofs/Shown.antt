@@ -1,14 +1,15 @@
 -- Laws of show.
 --   NotRefused                   what holds where none of its rules applies
 --   passes, not-refused          its rules pass exactly where none applies
---   show-2 .. show-4             the refusals after the shape's, each where those before it do not apply
+--   show-refused, show-7, show-4    its refusals, each where those before it do not apply
+--   show-named                   what holds past them
 --   start-most                   the start of a column that is named fits a number
 --   show-stripe, show-first, show-second    where a column lies: in the stripe, in the first and in the second half of the bench
 --   stripe-fits, bench-fits      the part lies within the buffer
 use mathlib.Core.Path.{_≡_, refl, sym, ap, _∙_}
 use mathlib.Core.Logic.{_≢_, by-cases}
 use mathlib.Core.Bool.{Bool, true, false}
-use mathlib.Core.List.{List}
+use mathlib.Core.List.{List, [], _∷_, _++_}
 use Prim.Native.Nat.{ℕ, suc, _+_, _*_, _≤_, _<_}
 use native.Mathlib.Nat.{mul-le-mul-right, suc-mul, zero-mul, one-mul}
 use native.Mathlib.Decide.{decLt}
@@ -16,17 +17,23 @@ use native.Mathlib.Omega.{arith}
 use lib.ListN.{length}
 use Rattle.parity.specs.Shape.{Shape, columnLength, stripeLength, benchLength}
 use Rattle.parity.specs.Presence.{present, absences}
+use Rattle.marks.specs.declared.Gaps.{Gaps}
+use Rattle.marks.specs.Absent.{Counts}
+use Rattle.marks.proofs.Absent.{absences-below, below-under}
 use Rattle.evenodd.specs.declared.maps.Map.{Map}
-use Rattle.evenodd.specs.declared.maps.Gaps.{Gaps}
 use Rattle.evenodd.specs.declared.showing.Place.the-variants.{InStripe, InBench, Refused}
+use Rattle.evenodd.specs.declared.shapes.Judged.{Judged}
+use Rattle.evenodd.specs.declared.shapes.Judged.the-variants as judged
 use Rattle.evenodd.specs.declared.shapes.Refusal.{Refusal}
-use Rattle.evenodd.specs.declared.shapes.Refusal.the-variants.{StripeLength, BenchLength, StrayColumn, NoSuchColumn, Ambiguous}
-use Rattle.evenodd.specs.Refusals.{pass, refuse, Gives}
-use Rattle.evenodd.specs.Maps.{Stray, absentBelow, Counts}
+use Rattle.evenodd.specs.declared.shapes.Refusal.the-variants.{NoSuchColumn, Ambiguous}
+use Rattle.evenodd.specs.Refusals.{pass, refuse, Rule, Gives}
+use Rattle.evenodd.specs.Shapes.{refusalOf}
+use Rattle.evenodd.specs.Maps.{Stray, TooManyAbsent, absentBelow}
+use Rattle.evenodd.specs.Tests.{stripeTests, lentTests, JudgesLent}
 use Rattle.evenodd.specs.Shows.{laterRules, showRules, half, Places}
-use Rattle.evenodd.proofs.Rules.{gives-first, gives-next, passed-first, equal-of}
+use Rattle.evenodd.proofs.Rules.{gives-first, gives-next, gives-after, passed-first, equal-of}
 use Rattle.evenodd.proofs.Shape.{places-most, parts-most, after-shape, passed-shape}
-use Rattle.evenodd.proofs.Presence.{absences-below, below-under}
+use Rattle.evenodd.proofs.Tests.{Lent, told-refused}
 
 pub record NotRefused (m k b : ℕ) (map : Map) (s bench : List ℕ) (column : ℕ) : Type 0 where
   pub shape : Shape m k b
@@ -52,27 +59,44 @@ module _ (m k b : ℕ) (map : Map) (s bench : List ℕ) (column : ℕ) where
       let (few, none) = passed-first four in
       record { shape = shape; stripe = equal-of _ _ stripe; held = equal-of _ _ held; clear = clear; named = omega arith; few = omega arith }
 
-module _ {m k b : ℕ} {map : Map} {s bench : List ℕ} {column : ℕ} (shape : Shape m k b) where
-  refused : {f : Refusal} → Gives (laterRules m k b map s bench column) (refuse f) → Places m k b map s bench column (Refused f)
-  refused g = record { told = after-shape m k b (laterRules m k b map s bench column) _ shape g; lies = tt }
+-- show's rules after the tests that it shares with restore
+abbrev lastRules : ℕ → List Bool → ℕ → List Rule
+lastRules k map column =
+    record { condition = k + 2 ≤ column; refusal = NoSuchColumn }
+    ∷ record { condition = TooManyAbsent k map; refusal = Ambiguous }
+    ∷ []
 
-  pub show-2 : length s ≢ stripeLength m k b → Places m k b map s bench column (Refused StripeLength)
-  show-2 f = refused (gives-first f)
+module _ (m k b : ℕ) (map : Map) (s bench : List ℕ) (column : ℕ) where
+  pub show-refused : (j : Judged) {f g : Refusal} → JudgesLent m k b (map .places) (length s) (length bench) j → j ≡ judged.Refused f → g ≡ refusalOf j
+      → Places m k b map s bench column (Refused g)
+  show-refused j h e q = record {
+    told = told-refused (stripeTests m k b (length s) ++ lentTests m k b (map .places) (length bench)) (lastRules k (map .places) column) j (h .told) e q;
+    lies = tt;
+  }
 
-  module _ (stripe : length s ≡ stripeLength m k b) where
-    pub show-3 : length bench ≢ benchLength m b → Places m k b map s bench column (Refused BenchLength)
-    show-3 f = refused (gives-next (λ g. g stripe) (gives-first f))
+  module _ {c : ℕ} (lent : Lent m k b (length s) (map .places) (length bench) c) where
+    rules : {f : Refusal} → Gives (lastRules k (map .places) column) (refuse f) → Places m k b map s bench column (Refused f)
+    rules g = record {
+      told = gives-after (stripeTests m k b (length s) ++ lentTests m k b (map .places) (length bench)) (lastRules k (map .places) column) _ (lent .tests) g;
+      lies = tt;
+    }
 
-    module _ (held : length bench ≡ benchLength m b) where
-      pub show-9 : Stray k (map .places) → Places m k b map s bench column (Refused StrayColumn)
-      show-9 h = refused (gives-next (λ g. g stripe) (gives-next (λ g. g held) (gives-first h)))
+    pub show-7 : k + 2 ≤ column → Places m k b map s bench column (Refused NoSuchColumn)
+    show-7 h = rules (gives-first h)
 
-      module _ (clear : Stray k (map .places) → ⊥) where
-        pub show-7 : k + 2 ≤ column → Places m k b map s bench column (Refused NoSuchColumn)
-        show-7 h = refused (gives-next (λ g. g stripe) (gives-next (λ g. g held) (gives-next clear (gives-first h))))
+    module _ (named : column < k + 2) {g : Gaps} (counts : Counts (k + 2) (map .places) g) where
+      pub show-4 : 2 < g .count → Places m k b map s bench column (Refused Ambiguous)
+      show-4 h = rules (gives-next (λ n. omega arith) (gives-first (let e = absences-below k (map .places) in omega (arith, counts .count))))
 
-        pub show-4 : column < k + 2 → 2 < absences k (map .places) → Places m k b map s bench column (Refused Ambiguous)
-        show-4 l h = refused (gives-next (λ g. g stripe) (gives-next (λ g. g held) (gives-next clear (gives-next (λ n. omega arith) (gives-first h)))))
+      pub show-named : g .count ≤ 2 → NotRefused m k b map s bench column
+      show-named h = record {
+        shape = lent .numbers .shape;
+        stripe = lent .numbers .stripe;
+        held = lent .held;
+        clear = lent .clear;
+        named = named;
+        few = let e = absences-below k (map .places) in omega (arith, counts .count);
+      }
 
 -- an absent column that show names has at most one absent column below it
 half-most : {m k b : ℕ} {map : Map} {s bench : List ℕ} {column : ℕ} → NotRefused m k b map s bench column → present (map .places) column ≡ false → half (map .places) column ≤ 1

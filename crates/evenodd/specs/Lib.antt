@@ -2,12 +2,11 @@
 pub mod Refusals
 pub mod Shapes
 pub mod Maps
+pub mod Tests
 pub mod Shows
 pub mod Encodes
 pub mod Checks
 pub mod Restores
-pub mod Gapped
 pub mod Mends
-pub mod Blamed
 pub mod Determined
 pub mod EndToEnd

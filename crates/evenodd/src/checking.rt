@@ -1,9 +1,10 @@
 // Check.
+use crate::lent::judge_stripe;
 use crate::shapes::Judged;
 use crate::shapes::Refusal;
-use crate::shapes::judge;
+use counts::Counts;
 use lines::Grid;
-ghost use Rattle.evenodd.specs.Checks.{Checks};
+ghost use Rattle.evenodd.specs.Checks.{Checks, Tells};
 
 // What check answers: the stripe is intact, or so many rows and diagonals break.
 pub enum Checked {
@@ -12,18 +13,10 @@ pub enum Checked {
     Refused(Refusal),
 }
 
-// Counts the rows whose H equation breaks and the numbers whose D equation breaks. Nothing is written.
-pub fn check(m: usize, k: usize, b: usize, stripe: &[u8]) -> Checked
-    ensures { λ r. ⌜ Checks m k b (now (stripe .entry)) r ⌝ }
+// What the two counts say.
+fn told(counts: Counts) -> Checked
+    ensures { λ r. ⌜ Tells counts r ⌝ }
 {
-    let judged = judge(m, k, b);
-    let Judged::Good { column } = judged else {
-        return Checked::Refused(judged.refusal());
-    };
-    if stripe.len() != (k + 2) * column {
-        return Checked::Refused(Refusal::StripeLength);
-    }
-    let counts = counts::count_broken(stripe, Grid { m, b, column }, k);
     let rows = counts.rows;
     let diagonals = counts.diagonals;
     if rows != 0 {
@@ -33,4 +26,15 @@ pub fn check(m: usize, k: usize, b: usize, stripe: &[u8]) -> Checked
         return Checked::Broken { rows, diagonals };
     }
     Checked::Intact
+}
+
+// Counts the rows whose H equation breaks and the numbers whose D equation breaks. Nothing is written.
+pub fn check(m: usize, k: usize, b: usize, stripe: &[u8]) -> Checked
+    ensures { λ r. ⌜ Checks m k b (now (stripe .entry)) r ⌝ }
+{
+    let judged = judge_stripe(m, k, b, stripe.len());
+    let Judged::Good { column } = judged else {
+        return Checked::Refused(judged.refusal());
+    };
+    told(counts::count_broken(stripe, Grid { m, b, column }, k))
 }

@@ -1,7 +1,7 @@
 // Encode.
+use crate::lent::judge_stripe;
 use crate::shapes::Judged;
 use crate::shapes::Refusal;
-use crate::shapes::judge;
 use lines::Grid;
 ghost use Rattle.evenodd.specs.Encodes.{Encodes};
 
@@ -15,13 +15,10 @@ pub enum Encoded {
 pub fn encode(m: usize, k: usize, b: usize, stripe: &mut [u8]) -> Encoded
     ensures { λ r. ⌜ Encodes m k b (now (stripe .entry)) (now (stripe .exit)) r ⌝ }
 {
-    let judged = judge(m, k, b);
+    let judged = judge_stripe(m, k, b, stripe.len());
     let Judged::Good { column } = judged else {
         return Encoded::Refused(judged.refusal());
     };
-    if stripe.len() != (k + 2) * column {
-        return Encoded::Refused(Refusal::StripeLength);
-    }
     parities::put_parity(stripe, Grid { m, b, column }, k);
     Encoded::Done
 }

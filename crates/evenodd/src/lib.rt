@@ -2,6 +2,7 @@
 // refused by number, and a refused call changes no byte that was lent.
 mod checking;
 mod encoding;
+mod lent;
 mod maps;
 mod mending;
 mod restoring;
@@ -12,7 +13,6 @@ pub use checking::Checked;
 pub use checking::check;
 pub use encoding::Encoded;
 pub use encoding::encode;
-pub use maps::Gaps;
 pub use maps::Map;
 pub use maps::Marked;
 pub use mending::Mended;

@@ -1,60 +1,18 @@
-// The presence map: 129 places, each present or absent. Only this file looks into its array.
+// The presence map: 129 places, each present or absent. Only this crate looks into its array.
 use crate::shapes::Refusal;
 ghost use mathlib.Core.Path.{_≡_};
-ghost use mathlib.Core.Bool.{Bool, true, false};
-ghost use Prim.Native.Nat.{_+_, _≤_, _<_};
+ghost use mathlib.Core.Bool.{true, false};
 ghost use Rattle.parity.specs.Presence.{present};
-ghost use mathlib.Core.Logic.{_↔_};
-ghost use mathlib.Core.List.{List};
-ghost use Rattle.evenodd.specs.Maps.{New, OfBytes, AsBytes, Marks, JudgesPlace, PresentFrom, Counts};
+ghost use Rattle.evenodd.specs.Maps.{New, OfBytes, AsBytes, Marks, JudgesPlace};
 
 pub struct Map {
-    places: [bool; 129],
+    pub(crate) places: [bool; 129],
 }
 
 // Whether a place can be marked, or why not.
 pub enum Marked {
     Done,
     Refused(Refusal),
-}
-
-// How many places are absent, and the two lowest of them; 129 stands for none.
-pub struct Gaps {
-    pub count: usize,
-    pub first: usize,
-    pub second: usize,
-}
-
-impl Gaps {
-    // What was counted below a place, and then that place: it is there, or absent.
-    fn counted(self, place: usize, there: bool) -> Self
-        requires { ⌜ self .count < 129 ⌝ }
-        ensures { λ r. ⌜ ((map : List Bool) → Counts place map self → present map place ≡ there → Counts (place + 1) map r) ⌝ }
-    {
-        if there {
-            return self;
-        }
-        let count = self.count;
-        if count == 0 {
-            return Self {
-                count: 1,
-                first: place,
-                second: self.second,
-            };
-        }
-        if count == 1 {
-            return Self {
-                count: 2,
-                first: self.first,
-                second: place,
-            };
-        }
-        Self {
-            count: count + 1,
-            first: self.first,
-            second: self.second,
-        }
-    }
 }
 
 impl Map {
@@ -71,10 +29,7 @@ impl Map {
     pub fn of_bytes(bytes: &[u8; 129]) -> Self
         ensures { λ r. ⌜ OfBytes (now (bytes .entry)) r ⌝ }
     {
-        let mut places = [false; 129];
-        for t in 0..129 {
-            places[t] = bytes[t] == 1;
-        }
+        let places = marks::of_bytes(bytes);
         Self { places }
     }
 
@@ -82,11 +37,8 @@ impl Map {
     pub fn bytes(self) -> [u8; 129]
         ensures { λ r. ⌜ AsBytes self r ⌝ }
     {
-        let mut bytes: [u8; 129] = [0; 129];
-        for t in 0..129 {
-            bytes[t] = self.places[t] as u8;
-        }
-        bytes
+        let places = self.places;
+        marks::as_bytes(places)
     }
 
     // The map with a place marked present; a place of 129 or more leaves it as it is.
@@ -129,35 +81,5 @@ impl Map {
             return false;
         }
         self.places[place]
-    }
-
-    // The absent places below n.
-    pub(crate) fn gaps(self, n: usize) -> Gaps
-        requires { ⌜ n ≤ 129 ⌝ }
-        ensures { λ r. ⌜ Counts n (self .places) r ⌝ }
-    {
-        let mut gaps = Gaps {
-            count: 0,
-            first: 129,
-            second: 129,
-        };
-        for t in 0..n {
-            let there = self.places[t];
-            gaps = gaps.counted(t, there);
-        }
-        gaps
-    }
-
-    // Whether a place from n on is present.
-    pub(crate) fn strays(self, n: usize) -> bool
-        requires { ⌜ n ≤ 129 ⌝ }
-        ensures { λ r. ⌜ (r ≡ true) ↔ PresentFrom n (self .places) ⌝ }
-    {
-        for t in n..129 {
-            if self.places[t] {
-                return true;
-            }
-        }
-        false
     }
 }

@@ -59,19 +59,7 @@ impl Judged {
 pub fn judge(m: usize, k: usize, b: usize) -> Judged
     ensures { λ r. ⌜ Judges m k b r ⌝ }
 {
-    if !parity::is_accepted(m) {
-        return Judged::Refused(Refusal::Shape);
-    }
-    if k == 0 {
-        return Judged::Refused(Refusal::Shape);
-    }
-    if m < k {
-        return Judged::Refused(Refusal::Shape);
-    }
-    if b == 0 {
-        return Judged::Refused(Refusal::Shape);
-    }
-    if 4096 < b {
+    if !parity::is_shape(m, k, b) {
         return Judged::Refused(Refusal::Shape);
     }
     Judged::Good {

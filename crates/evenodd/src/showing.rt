@@ -1,8 +1,8 @@
 // Showing a column: where it lies, and the part itself.
+use crate::lent::judge_lent;
 use crate::maps::Map;
 use crate::shapes::Judged;
 use crate::shapes::Refusal;
-use crate::shapes::judge;
 ghost use Rattle.evenodd.specs.Shows.{Places, Shows};
 
 // Where a column is shown: from a byte on, so many bytes, in the stripe or in the bench; or why not.
@@ -24,25 +24,18 @@ pub fn place_of(
 ) -> Place
     ensures { λ r. ⌜ Places m k b map (now (stripe .entry)) (now (bench .entry)) column r ⌝ }
 {
-    let judged = judge(m, k, b);
+    let judged = judge_lent(m, k, b, map, stripe.len(), bench.len());
     let Judged::Good { column: length } = judged else {
         return Place::Refused(judged.refusal());
     };
     let columns = k + 2;
-    if stripe.len() != columns * length {
-        return Place::Refused(Refusal::StripeLength);
-    }
-    if bench.len() != 2 * length {
-        return Place::Refused(Refusal::BenchLength);
-    }
-    if map.strays(columns) {
-        return Place::Refused(Refusal::StrayColumn);
-    }
+    let places = map.places;
+    let gaps = marks::find_gaps(places, columns);
+    let count = gaps.count;
     if columns <= column {
         return Place::Refused(Refusal::NoSuchColumn);
     }
-    let gaps = map.gaps(columns);
-    if 2 < gaps.count {
+    if 2 < count {
         return Place::Refused(Refusal::Ambiguous);
     }
     if map.is_present(column) {

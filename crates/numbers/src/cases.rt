@@ -1,14 +1,15 @@
 // The document's cases. C1 is the stripe of m = 3, k = 3, b = 1 with the data 01 02, 04 08, 10 20.
-use crate::lines::check_line;
-use crate::lines::encode_line;
-use crate::lines::mend_line;
-use crate::lines::restore_line;
-use crate::lines::say_contents;
-use crate::lines::show_line;
-use crate::writing::say;
-use crate::writing::say_bytes;
-use crate::writing::say_flat;
 use evenodd::Map;
+use say::check_line;
+use say::contents_line;
+use say::encode_line;
+use say::mend_line;
+use say::read_line;
+use say::report_line;
+use say::restore_line;
+use say::say_bytes;
+use say::say_word;
+use say::show_line;
 
 // The map of the five columns of C1, all present.
 fn five() -> Map {
@@ -22,10 +23,10 @@ fn five() -> Map {
 
 // The sum S, which is the sum of all cells of H and of D.
 fn sum_line(out: &mut [u8], at: usize, h0: u8, h1: u8, d0: u8, d1: u8) -> usize {
-    let first = say(out, at, b"C1 S");
+    let first = say_word(out, at, b"C1 S");
     let sum = [h0 ^ h1 ^ d0 ^ d1];
     let second = say_bytes(out, first, &sum);
-    say(out, second, b"\n")
+    say_word(out, second, b"\n")
 }
 
 // C1 to C3: encode.
@@ -149,30 +150,44 @@ pub(crate) fn three_absent(out: &mut [u8], at: usize) -> usize {
     mend_line(out, second, b"C11", 3, 3, 1, &mut c11)
 }
 
-// Values of m that are refused, by checks of zeros.
+// A check of n zeros, at most 24,582.
+fn zeros_line(
+    out: &mut [u8],
+    at: usize,
+    name: &[u8],
+    m: usize,
+    k: usize,
+    b: usize,
+    n: usize,
+) -> usize {
+    let zeros = [0u8; 24582];
+    if 24582 < n {
+        return at;
+    }
+    check_line(out, at, name, m, k, b, &zeros[0..n])
+}
+
+// Values of m that are refused.
 pub(crate) fn bad_rows(out: &mut [u8], at: usize) -> usize {
-    let zeros = [0u8; 390];
-    let a = check_line(out, at, b"m=2", 2, 1, 1, &zeros[0..3]);
-    let b = check_line(out, a, b"m=9", 9, 1, 1, &zeros[0..24]);
-    let c = check_line(out, b, b"m=129", 129, 1, 1, &zeros[0..384]);
-    check_line(out, c, b"m=131", 131, 1, 1, &zeros[0..390])
+    let a = zeros_line(out, at, b"m=2", 2, 1, 1, 3);
+    let b = zeros_line(out, a, b"m=9", 9, 1, 1, 24);
+    let c = zeros_line(out, b, b"m=129", 129, 1, 1, 384);
+    zeros_line(out, c, b"m=131", 131, 1, 1, 390)
 }
 
 // The largest m, and k at its edges.
 pub(crate) fn edges_of_columns(out: &mut [u8], at: usize) -> usize {
-    let zeros = [0u8; 378];
-    let a = check_line(out, at, b"m=127", 127, 1, 1, &zeros[0..378]);
-    let b = check_line(out, a, b"k=0", 3, 0, 1, &zeros[0..4]);
-    let c = check_line(out, b, b"k=4", 3, 4, 1, &zeros[0..12]);
-    check_line(out, c, b"k=3", 3, 3, 1, &zeros[0..10])
+    let a = zeros_line(out, at, b"m=127", 127, 1, 1, 378);
+    let b = zeros_line(out, a, b"k=0", 3, 0, 1, 4);
+    let c = zeros_line(out, b, b"k=4", 3, 4, 1, 12);
+    zeros_line(out, c, b"k=3", 3, 3, 1, 10)
 }
 
 // b at its edges.
 pub(crate) fn edges_of_cells(out: &mut [u8], at: usize) -> usize {
-    let zeros = [0u8; 24582];
-    let a = check_line(out, at, b"b=0", 3, 1, 0, &zeros[0..0]);
-    let b = check_line(out, a, b"b=4097", 3, 1, 4097, &zeros[0..24582]);
-    check_line(out, b, b"b=4096", 3, 1, 4096, &zeros[0..24576])
+    let a = zeros_line(out, at, b"b=0", 3, 1, 0, 0);
+    let b = zeros_line(out, a, b"b=4097", 3, 1, 4097, 24582);
+    zeros_line(out, b, b"b=4096", 3, 1, 4096, 24576)
 }
 
 // C1 cut, and with one byte more.
@@ -224,32 +239,6 @@ pub(crate) fn wrong_cells(out: &mut [u8], at: usize) -> usize {
     let next = mend_line(out, at, b"lanes", 3, 3, 2, &mut lanes);
     let wrong = [1u8, 2, 4, 9, 16, 32, 21, 42, 57, 30];
     check_line(out, next, b"08->09", 3, 3, 1, &wrong)
-}
-
-// The report of an image on one line.
-fn report_line(out: &mut [u8], at: usize, image: &[u8]) -> usize {
-    let mut stripe = [0u8; 10];
-    let mut bench = [0u8; 4];
-    let mut words = [0u8; 102400];
-    let end = report::report(image, &mut stripe, &mut bench, &mut words);
-    say_flat(out, at, &words[0..end])
-}
-
-// What an image says.
-fn contents_line(out: &mut [u8], at: usize, image: &[u8]) -> usize {
-    let first = say(out, at, b"C5-image contents");
-    let second = say_contents(out, first, image::contents(image));
-    say(out, second, b"\n")
-}
-
-// What is read of an image, and the stripe after it.
-fn read_line(out: &mut [u8], at: usize, image: &[u8]) -> usize {
-    let mut stripe = [176u8, 177, 178, 179, 180, 181, 182, 183, 184, 185];
-    let first = say(out, at, b"C5-image read");
-    let found = image::read(image, &mut stripe);
-    let second = say_contents(out, first, found);
-    let third = say_bytes(out, second, &stripe);
-    say(out, third, b"\n")
 }
 
 // C5 as an image: its contents, its columns in a stripe, and its report.
@@ -310,9 +299,8 @@ pub(crate) fn image_lines(out: &mut [u8], at: usize) -> usize {
         57,
         30,
     ];
-    let first = contents_line(out, at, &image);
-    let second = read_line(out, first, &image);
-    let third = say(out, second, b"C5-image shelf ");
-    let fourth = report_line(out, third, &image);
-    say(out, fourth, b"\n")
+    let mut stripe = [176u8, 177, 178, 179, 180, 181, 182, 183, 184, 185];
+    let first = contents_line(out, at, b"C5-image", &image);
+    let second = read_line(out, first, b"C5-image", &image, &mut stripe);
+    report_line(out, second, b"C5-image", &image)
 }

@@ -1,8 +1,6 @@
 // Runs every number that the document gives to hold against the build, and prints what the library answers, one line each. What is printed is
 // compared with the stored text.
 mod cases;
-mod lines;
-mod writing;
 
 // The cases C1 to C11.
 fn proved_cases(out: &mut [u8], at: usize) -> usize {

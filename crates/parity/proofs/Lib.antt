@@ -14,6 +14,7 @@ pub mod Prime
 pub mod Stripes
 pub mod Theorems
 pub mod Table
+pub mod Shapes
 pub mod Candidate
 pub mod Diagonals
 pub mod Test

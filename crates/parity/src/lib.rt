@@ -1,6 +1,8 @@
-// The accepted values of m.
+// The accepted values of m, and the rules of a shape.
 ghost use mathlib.Core.Path.{_≡_};
-ghost use Rattle.parity.specs.Shape.{accepted, member};
+ghost use mathlib.Core.Logic.{_↔_};
+ghost use mathlib.Core.Bool.{true};
+ghost use Rattle.parity.specs.Shape.{accepted, member, Shape};
 
 const ACCEPTED: [usize; 30] = [
     3,
@@ -45,4 +47,23 @@ pub fn is_accepted(m: usize) -> bool
         }
     }
     false
+}
+
+// Whether three numbers are a shape.
+pub fn is_shape(m: usize, k: usize, b: usize) -> bool
+    ensures { λ r. ⌜ (r ≡ true) ↔ Shape m k b ⌝ }
+{
+    if k == 0 {
+        return false;
+    }
+    if m < k {
+        return false;
+    }
+    if b == 0 {
+        return false;
+    }
+    if 4096 < b {
+        return false;
+    }
+    is_accepted(m)
 }

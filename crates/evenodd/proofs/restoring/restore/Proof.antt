@@ -1,39 +1,28 @@
--- `evenodd::restoring::restore` meets its contract: what the tests on the way to each answer said, and what restore_gaps leaves.
-use mathlib.Core.Path.{_≡_, refl, sym, ap, _∙_}
-use mathlib.Core.Bool.{true≢false}
-use Prim.Native.Nat.{_+_, _*_}
+-- `evenodd::restoring::restore` meets its contract: a law of restore for each way out, from what the tests on the way there said.
+use mathlib.Core.Path.{subst}
 use lib.ListN.{length}
-use denote.Ref.{now}
-use Rattle.parity.specs.Shape.{Shape, columnLength, stripeLength, benchLength}
-use Rattle.evenodd.specs.Maps.{Stray}
-use Rattle.evenodd.specs.Restores.{benchRules}
-use Rattle.evenodd.proofs.Rules.{gives-first, gives-next}
-use Rattle.evenodd.proofs.Shape.{places-most, parts-most, judged-good, judged-refused, after-shape}
-use Rattle.evenodd.proofs.Presence.{absences-below}
-use Rattle.evenodd.proofs.Restored.{restore-answer}
-use borrow.Author.Needs.{needs}
 use native.Mathlib.Omega.{arith}
+use denote.Ref.{now}
+use borrow.Author.Needs.{needs}
+use borrow.Author.Tests.{not-true, not-false}
+use Rattle.parity.specs.Stripe.{Stripe}
+use Rattle.repair.specs.Fills.{Fills}
+use Rattle.evenodd.proofs.Shape.{places-most}
+use Rattle.evenodd.proofs.Tests.{Lent, lent-good}
+use Rattle.evenodd.proofs.Restored.{restore-refused, restore-ambiguous, restore-gapped, restore-contradicted, restore-columns}
 use Rattle.evenodd.proofs.restoring.restore.Statement.{statement}
 use Rattle.evenodd.proofs.restoring.restore.Tie as tie
 
--- what each test that was passed says
 good : (c : tie.After-known-told) → let a = c .before .before .before .before .before .before .args in
-    Shape (a .m) (a .k) (a .b) × (c .before .judged .given .0 .0 ≡ columnLength (a .m) (a .b))
-good c = let at = c .before .before .before in judged-good _ _ _ (at .judge .result) (at .judge .ensures) (c .before .judged .given .1)
+    Lent (a .m) (a .k) (a .b) (length (now (a .stripe))) (a .map .places) (length (now (a .bench))) (c .before .judged .given .0 .0)
+good c = let at = c .before .before .before in lent-good _ _ _ _ _ _ (at .judge-lent .result) (at .judge-lent .ensures) (c .before .judged .given .1)
 
-stripe-right : (c : tie.Else1) → let a = c .before .before .before .before .before .before .before .args in length (now (a .stripe)) ≡ stripeLength (a .m) (a .k) (a .b)
-unfolding stripeLength
-stripe-right c = let a = c .before .before .before .before .before .before .before .args in c .if1 .left ∙ ap (λ n. (a .k + 2) * n) (good (c .before) .1)
+-- a stripe, of the length that was tested
+stripe : (c : tie.After-known-told) → let a = c .before .before .before .before .before .before .args in Stripe (a .m) (a .k) (a .b) (now (a .stripe))
+stripe c = record { whole = good c .numbers .stripe; bytes = λ x. omega (arith, c .before .before .before .before .before .shared-slice-known .given x) }
 
-bench-right : (c : tie.Else2) → let a = c .before .before .before .before .before .before .before .before .args in length (now (a .bench)) ≡ benchLength (a .m) (a .b)
-unfolding benchLength
-bench-right c = c .if2 .left ∙ ap (λ n. 2 * n) (good (c .before .before) .1)
-
-clear : (c : tie.Else3) → let a = c .before .before .before .before .before .before .before .before .before .before .args in Stray (a .k) (a .map .places) → ⊥
-clear c p = true≢false (sym (c .before .strays .ensures .1 p) ∙ c .if3 .left)
-
-judge-requires : tie.Need-judge-requires
-judge-requires c κs = tt
+judge-lent-requires : tie.Need-judge-lent-requires
+judge-lent-requires c κs = tt
 
 enum-known-judged : tie.Need-enum-known-judged
 enum-known-judged c = c .match .keys1
@@ -46,103 +35,72 @@ refusal-requires c κs = tt
 
 returns : tie.Need-returns
 returns c =
-    let a = c .before .before .before .before .before .before .args in
     let at = c .before .before .before in
-    record {
-      told = judged-refused (a .m) (a .k) (a .b) (benchRules (a .m) (a .k) (a .b) (a .map) (now (a .stripe)) (now (a .bench))) (at .judge .result) (at .judge .ensures) (c .before .enum-told .given .1) (c .refusal .ensures);
-      left = refl;
-    }
+    let a = at .before .before .before .args in
+    restore-refused (a .m) (a .k) (a .b) (a .map) (now (a .stripe)) (now (a .bench)) (at .judge-lent .result) (at .judge-lent .ensures) (c .before .enum-told .given .1) (c .refusal .ensures)
 
-add-columns : tie.Need-add-columns
-add-columns c = omega (arith, places-most (good c .0))
+add-find-gaps : tie.Need-add-find-gaps
+add-find-gaps c = omega (arith, places-most (good (c .before) .numbers .shape))
 
-mul-if1 : tie.Need-mul-if1
-mul-if1 c =
-    let (s, e) = good c in omega (arith, parts-most s e (c .before .before .before .before .before .before .args .k + 2) (places-most s))
+find-gaps-requires : tie.Need-find-gaps-requires
+find-gaps-requires c κs = places-most (good (c .before) .numbers .shape)
 
 returns-2 : tie.Need-returns-2
-unfolding stripeLength
 returns-2 c =
-    let a = c .before .before .before .before .before .before .before .args in
-    let (s, e) = good (c .before) in
-    record { told = after-shape (a .m) (a .k) (a .b) (benchRules (a .m) (a .k) (a .b) (a .map) (now (a .stripe)) (now (a .bench))) _ s (gives-first (rw e at (c .if1 .taken))); left = refl }
-
-mul-if2 : tie.Need-mul-if2
-mul-if2 c = let (s, e) = good (c .before) in omega (arith, parts-most s e 2 (omega arith))
-
-returns-3 : tie.Need-returns-3
-unfolding benchLength
-returns-3 c =
-    let a = c .before .before .before .before .before .before .before .before .args in
-    let (s, e) = good (c .before .before) in
-    record { told = after-shape (a .m) (a .k) (a .b) (benchRules (a .m) (a .k) (a .b) (a .map) (now (a .stripe)) (now (a .bench))) _ s (gives-next (λ f. f (stripe-right (c .before))) (gives-first (rw e at (c .if2 .taken)))); left = refl }
-
-strays-requires : tie.Need-strays-requires
-strays-requires c κs = places-most (good (c .before .before) .0)
-
-returns-4 : tie.Need-returns-4
-returns-4 c =
-    let a = c .before .before .before .before .before .before .before .before .before .before .args in
-    let at = c .before .before in
-    record {
-      told = after-shape (a .m) (a .k) (a .b) (benchRules (a .m) (a .k) (a .b) (a .map) (now (a .stripe)) (now (a .bench))) _ (good (at .before .before) .0)
-          (gives-next (λ f. f (stripe-right (at .before))) (gives-next (λ f. f (bench-right at)) (gives-first (c .before .strays .ensures .0 (c .if3 .taken)))));
-      left = refl;
-    }
-
-gaps-requires : tie.Need-gaps-requires
-gaps-requires c κs = places-most (good (c .before .before .before .before) .0)
-
-returns-5 : tie.Need-returns-5
-returns-5 c =
-    let a = c .before .before .before .before .before .before .before .before .before .before .before .before .before .args in
-    let three = c .before .before .before in
-    let two = three .before .before in
-    let e = absences-below (a .k) (a .map .places) in
-    record {
-      told = after-shape (a .m) (a .k) (a .b) (benchRules (a .m) (a .k) (a .b) (a .map) (now (a .stripe)) (now (a .bench))) _ (good (two .before .before) .0)
-          (gives-next (λ f. f (stripe-right (two .before))) (gives-next (λ f. f (bench-right two)) (gives-next (clear three)
-          (gives-first (omega (arith, c .before .before .gaps .ensures .count, c .if4 .taken))))));
-      left = refl;
-    }
+    let g = c .before .before .find-gaps in
+    let z = c .before .before .before .before in
+    let a = z .before .before .before .before .before .before .args in
+    restore-ambiguous (a .m) (a .k) (a .b) (a .map) (now (a .stripe)) (now (a .bench)) (good z) (g .result) (g .ensures) (c .if1 .taken)
 
 restore-gaps-requires : tie.Need-restore-gaps-requires
 restore-gaps-requires c κs =
-    let three = c .before .before .before .before in
-    let two = three .before .before in
-    let (s, e) = good (two .before .before) in
-    record { shape = s; column = e; stripe = stripe-right (two .before); held = bench-right two; counts = c .before .before .before .gaps .ensures; few = omega (arith, c .before .if4 .left) }
+    let g = c .before .before .before .find-gaps in
+    let z = c .before .before .before .before .before in
+    let a = z .before .before .before .before .before .before .args in
+    restore-gapped (a .m) (a .k) (a .b) (a .map) (now (a .stripe)) (now (a .bench)) (good z) (g .result) (g .ensures) (c .before .if1 .left)
 
 same-length : tie.Need-same-length
 same-length c = search needs
 
-returns-6 : tie.Need-returns-6
-returns-6 c =
-    let a = c .before .before .before .before .before .before .before .before .before .before .before .before .before .before .before .before .before .args in
-    let three = c .before .before .before .before .before .before .before in
-    let two = three .before .before in
-    let e = absences-below (a .k) (a .map .places) in
-    restore-answer (a .m) (a .k) (a .b) (a .map) (now (a .stripe)) (now (a .bench)) (c .before .before .restore-gaps .last .1 .1 .1 .1 .1 .0) (good (two .before .before) .0) (stripe-right (two .before)) (bench-right two) (clear three)
-    (omega (arith, c .before .before .before .before .before .before .gaps .ensures .count, c .before .before .before .before .if4 .left)) (c .before .before .restore-gaps .result) (c .before .before .restore-gaps .ensures)
+returns-3 : tie.Need-returns-3
+returns-3 c =
+    let r = c .before .before .before in
+    let one = r .before .before in
+    let g = one .before .before .find-gaps in
+    let z = one .before .before .before .before in
+    let a = z .before .before .before .before .before .before .args in
+    let after = r .restore-gaps .last .1 .1 .1 .1 .0 in
+    restore-contradicted (a .m) (a .k) (a .b) (a .map) (now (a .stripe)) (now (a .bench)) (good z) (g .result) (g .ensures) (one .if1 .left) (stripe z) after
+    (subst (Fills (a .m) (a .k) (a .b) (g .result) (now (a .stripe)) (now (a .bench)) after) (not-true (r .restore-gaps .result) (c .if2 .taken)) (r .restore-gaps .ensures))
+
+same-length-2 : tie.Need-same-length-2
+same-length-2 c = search needs
+
+returns-4 : tie.Need-returns-4
+returns-4 c =
+    let r = c .before .before .before in
+    let one = r .before .before in
+    let g = one .before .before .find-gaps in
+    let z = one .before .before .before .before in
+    let a = z .before .before .before .before .before .before .args in
+    let after = r .restore-gaps .last .1 .1 .1 .1 .0 in
+    restore-columns (a .m) (a .k) (a .b) (a .map) (now (a .stripe)) (now (a .bench)) (good z) (g .result) (g .ensures) (one .if1 .left) (stripe z) after
+    (subst (Fills (a .m) (a .k) (a .b) (g .result) (now (a .stripe)) (now (a .bench)) after) (not-false (r .restore-gaps .result) (c .if2 .left)) (r .restore-gaps .ensures))
 
 pub restore-spec : {M : Type 1} → statement M
 restore-spec =
     tie.close
     (tie.spec
-    judge-requires
+    judge-lent-requires
     enum-known-judged
     enum-told
     refusal-requires
     returns
-    add-columns
-    mul-if1
+    add-find-gaps
+    find-gaps-requires
     returns-2
-    mul-if2
-    returns-3
-    strays-requires
-    returns-4
-    gaps-requires
-    returns-5
     restore-gaps-requires
     same-length
-    returns-6)
+    returns-3
+    same-length-2
+    returns-4)

@@ -3,7 +3,8 @@ use mathlib.Core.Path.{refl, sym}
 use native.Mathlib.Omega.{arith}
 use borrow.Author.Needs.{needs}
 use Rattle.parity.specs.Presence.{present}
-use Rattle.evenodd.proofs.Presence.{whole, past-all}
+use Rattle.marks.proofs.Absent.{past-all}
+use Rattle.evenodd.proofs.Presence.{whole}
 use Rattle.evenodd.proofs.maps.Map.is_present.Statement.{statement}
 use Rattle.evenodd.proofs.maps.Map.is_present.Tie as tie
 

@@ -1,0 +1,3 @@
+-- What the contracts of this crate cite.
+pub mod Absent
+pub mod InBytes

@@ -1,0 +1,45 @@
+-- Laws of a shape.
+--   accepted-prime, prime-accepted   the table, as the rule on m
+--   shape-dec, shape-of            whether three numbers are a shape is decided
+--   column-most, places-most, parts-most    what is computed from a shape fits a number
+use mathlib.Core.Path.{_≡_, refl, sym, _∙_}
+use mathlib.Core.Bool.{Bool, true, false, true≢false}
+use Prim.Native.Nat.{ℕ, _+_, _*_, _≤_}
+use native.Mathlib.Nat.{mul-le-mul}
+use native.Mathlib.Decide.{decLe}
+use native.Mathlib.Omega.{arith}
+use Rattle.parity.specs.Shape.{OddPrime, accepted, member, Shape, columnLength}
+use Rattle.parity.specs.Theorems.{Table}
+use Rattle.parity.proofs.Table.{table}
+
+pub accepted-prime : (m : ℕ) → member m accepted ≡ true → OddPrime m
+unfolding Table
+accepted-prime m e = table m .0 e
+
+pub prime-accepted : (m : ℕ) → OddPrime m → member m accepted ≡ true
+unfolding Table
+prime-accepted m p = table m .1 p
+
+pub shape-dec : (m k b : ℕ) → Dec (Shape m k b)
+shape-dec m k b = go (member m accepted) refl (decLe 1 k) (decLe k m) (decLe 1 b) (decLe b 4096)
+  where
+    go : (t : Bool) → member m accepted ≡ t → Dec (1 ≤ k) → Dec (k ≤ m) → Dec (1 ≤ b) → Dec (b ≤ 4096) → Dec (Shape m k b)
+    go false e p q r s = no (λ x. true≢false (sym (prime-accepted m (x .value)) ∙ e))
+    go true e (no n) q r s = no (λ x. n (x .real))
+    go true e (yes p) (no n) r s = no (λ x. n (x .few))
+    go true e (yes p) (yes q) (no n) s = no (λ x. n (x .filled))
+    go true e (yes p) (yes q) (yes r) (no n) = no (λ x. n (x .short))
+    go true e (yes p) (yes q) (yes r) (yes s) = yes (record { value = accepted-prime m e; real = p; few = q; filled = r; short = s })
+
+pub shape-of : (m k b : ℕ) → ((Shape m k b → ⊥) → ⊥) → Shape m k b
+shape-of m k b n = elim (shape-dec m k b) [ yes s ↦ s | no f ↦ absurd (n f) ]
+
+pub column-most : {m k b : ℕ} → Shape m k b → columnLength m b ≤ 516096
+unfolding columnLength
+column-most s = mul-le-mul {n₂ = 126} (omega (arith, s .value .most)) (s .short)
+
+pub places-most : {m k b : ℕ} → Shape m k b → k + 2 ≤ 129
+places-most s = omega (arith, s .few, s .value .most)
+
+pub parts-most : {m k b c : ℕ} → Shape m k b → c ≡ columnLength m b → (n : ℕ) → n ≤ 129 → n * c ≤ 66576384
+parts-most s e n l = rw e (mul-le-mul {n₂ = 129} l (column-most s))

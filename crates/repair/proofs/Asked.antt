@@ -1,0 +1,47 @@
+-- What the loops below ask for.
+--   sized                       the numbers of a shape
+--   columns-long                the bytes of a stripe, by the bytes of a column
+--   gapped-.., blamed-length    what is asked, of what is known
+use mathlib.Core.Path.{_≡_, sym, ap, _∙_}
+use mathlib.Core.List.{List}
+use Prim.Native.Nat.{ℕ, _+_, _-_, _*_, _<_}
+use native.Mathlib.Omega.{arith}
+use lib.ListN.{length}
+use Rattle.parity.specs.Shape.{Shape, columnLength, stripeLength, benchLength}
+use Rattle.lines.specs.declared.Grid.{Grid}
+use Rattle.lines.specs.Lines.{Sized}
+use Rattle.walk.specs.Walk.{Reaches}
+use Rattle.walk.proofs.Callers.{reaches}
+use Rattle.columns.specs.Columns.{Ready}
+use Rattle.marks.specs.declared.Gaps.{Gaps}
+use Rattle.repair.specs.Fills.{Gapped}
+use Rattle.repair.specs.Patches.{Blamed}
+
+pub sized : {m k b c : ℕ} → Shape m k b → c ≡ columnLength m b → Sized m b c
+sized s e = record { big = s .value .prime .big; few = s .value .most; filled = s .filled; short = s .short; column = e }
+
+columns-long : (m k b c n : ℕ) → n ≡ stripeLength m k b → c ≡ columnLength m b → n ≡ (k + 2) * c
+unfolding stripeLength
+columns-long m k b c n e q = e ∙ sym (ap (λ (x : ℕ). (k + 2) * x) q)
+
+module _ {g : Grid} {k : ℕ} {gaps : Gaps} {s bench : List ℕ} (p : Gapped g k gaps s bench) where
+  pub gapped-length : length s ≡ (k + 2) * g .column
+  gapped-length = columns-long (g .m) k (g .b) (g .column) (length s) (p .stripe) (p .column)
+
+  pub gapped-ready : Ready (g .m) k (g .b) (g .column) (length s) (length bench)
+  unfolding benchLength
+  gapped-ready = record {
+    sized = sized (p .shape) (p .column);
+    some = p .shape .real;
+    few = p .shape .few;
+    stripe = gapped-length;
+    bench = p .held ∙ sym (ap (λ (n : ℕ). 2 * n) (p .column));
+  }
+
+  pub gapped-reaches : gaps .count ≡ 2 → gaps .second < k → Reaches (g .m) (gaps .second - gaps .first)
+  gapped-reaches e l =
+      let (order, _) = p .two e in
+      reaches (p .shape .value .prime) (omega arith) (omega (arith, p .shape .few))
+
+pub blamed-length : {g : Grid} {k : ℕ} {s : List ℕ} → Blamed g k s → length s ≡ (k + 2) * g .column
+blamed-length {g} {k} {s} p = columns-long (g .m) k (g .b) (g .column) (length s) (p .stripe) (p .column)

@@ -1,0 +1,67 @@
+-- `repair::mend_suspect` meets its contract, by what blame says of the stripe.
+use mathlib.Core.Path.{refl, subst}
+use denote.Ref.{now}
+use borrow.Author.Needs.{needs}
+use Rattle.blame.specs.Blame.{Suspects}
+use Rattle.repair.proofs.Asked.{sized, blamed-length}
+use Rattle.repair.proofs.mend_suspect.Statement.{statement}
+use Rattle.repair.proofs.mend_suspect.Tie as tie
+
+locate-requires : tie.Need-locate-requires
+locate-requires c κs =
+    let p = c .before .before .pre in
+    (sized (p .shape) (p .column), p .shape .real, p .shape .few, p .shape .value .odd, p .shape .value .prime, blamed-length p)
+
+enum-told : tie.Need-enum-told
+enum-told c = c .match .keys1
+
+enum-told-2 : tie.Need-enum-told-2
+enum-told-2 c = c .match .keys2
+
+enum-known-u : tie.Need-enum-known-u
+enum-known-u c = c .match .keys3
+
+mend-column-requires : tie.Need-mend-column-requires
+mend-column-requires c κs =
+    let z = c .before .before .before .before .before .before .before in
+    let a = z .args in
+    let sure = subst (Suspects (a .g .m) (a .k) (a .g .b) (now (a .stripe))) (c .before .before .u .given .1) (c .before .before .before .before .locate .ensures) in
+    (z .pre, record { broken = sure .0; inside = sure .1; only = sure .2 })
+
+same-length : tie.Need-same-length
+same-length c = search needs
+
+returns : tie.Need-returns
+returns c =
+    let a = c .before .before .before .before .before .args in
+    (subst (Suspects (a .g .m) (a .k) (a .g .b) (now (a .stripe))) (c .enum-told .given .1) (c .before .before .locate .ensures), refl)
+
+same-length-2 : tie.Need-same-length-2
+same-length-2 c = search needs
+
+returns-2 : tie.Need-returns-2
+returns-2 c =
+    let a = c .before .before .before .before .before .args in
+    (subst (Suspects (a .g .m) (a .k) (a .g .b) (now (a .stripe))) (c .enum-told2 .given .1) (c .before .before .locate .ensures) .1, refl)
+
+same-length-3 : tie.Need-same-length-3
+same-length-3 c = search needs
+
+returns-3 : tie.Need-returns-3
+returns-3 c = c .before .before .mend-column .ensures
+
+pub mend-suspect-spec : {M : Type 1} → statement M
+mend-suspect-spec =
+    tie.close
+    (tie.spec
+    locate-requires
+    enum-told
+    enum-told-2
+    enum-known-u
+    mend-column-requires
+    same-length
+    returns
+    same-length-2
+    returns-2
+    same-length-3
+    returns-3)

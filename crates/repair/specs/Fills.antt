@@ -1,0 +1,33 @@
+-- What restore does once the numbers, lengths and map are right, and at most two columns are absent.
+--   Gapped     all that is known then, with the absent columns' numbers
+--   Filled     the columns that are present fit, where they can be tested, and the absent ones were restored to the bench
+--   Fills      that; or, the columns that are present do not fit and nothing was written
+use mathlib.Core.Path.{_≡_}
+use mathlib.Core.Bool.{Bool, true, false}
+use mathlib.Core.List.{List}
+use Prim.Native.Nat.{ℕ, _+_, _≤_, _<_}
+use lib.ListN.{length}
+use Rattle.parity.specs.Shape.{Shape, columnLength, stripeLength, benchLength}
+use Rattle.parity.specs.Candidate.{FitsBut}
+use Rattle.lines.specs.declared.Grid.{Grid}
+use Rattle.columns.specs.Columns.{OneRestored, TwoRestored}
+use Rattle.marks.specs.declared.Gaps.{Gaps}
+
+pub record Gapped (g : Grid) (k : ℕ) (gaps : Gaps) (s bench : List ℕ) : Type 0 where
+  pub shape : Shape (g .m) k (g .b)
+  pub column : g .column ≡ columnLength (g .m) (g .b)
+  pub stripe : length s ≡ stripeLength (g .m) k (g .b)
+  pub held : length bench ≡ benchLength (g .m) (g .b)
+  pub few : gaps .count ≤ 2
+  pub one : gaps .count ≡ 1 → gaps .first < k + 2
+  pub two : gaps .count ≡ 2 → (gaps .first < gaps .second) × (gaps .second < k + 2)
+
+pub record Filled (m k b : ℕ) (gaps : Gaps) (s before after : List ℕ) : Type 0 where
+  pub fits : gaps .count ≤ 1 → FitsBut m k b (gaps .first) s
+  pub none : gaps .count ≡ 0 → after ≡ before
+  pub one : gaps .count ≡ 1 → OneRestored m k b (gaps .first) s before after
+  pub two : gaps .count ≡ 2 → TwoRestored m k b (gaps .first) (gaps .second) s before after
+
+abbrev pub Fills : ℕ → ℕ → ℕ → Gaps → List ℕ → List ℕ → List ℕ → Bool → Type 0
+Fills m k b gaps s before after true = Filled m k b gaps s before after
+Fills m k b gaps s before after false = (gaps .count ≤ 1) × (FitsBut m k b (gaps .first) s → ⊥) × (after ≡ before)

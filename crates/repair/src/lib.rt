@@ -1,0 +1,52 @@
+// What restore and mend do once the numbers, the lengths and the map are right.
+use blame::Suspect;
+use lines::Grid;
+use marks::Gaps;
+ghost use Rattle.repair.specs.Fills.{Gapped, Fills};
+ghost use Rattle.repair.specs.Patches.{Blamed, Sure, Patches};
+
+// Restores at most two absent columns to the bench. Where none or one is absent, the others are tested before a byte is written: whether
+// they fit is the answer. A number that is no column's, which stands for none, leaves no column out of the test.
+pub fn restore_gaps(gaps: Gaps, g: Grid, k: usize, stripe: &[u8], bench: &mut [u8]) -> bool
+    requires { ⌜ Gapped g k gaps (now stripe) (now bench) ⌝ }
+    ensures { λ r. ⌜ Fills (g .m) k (g .b) gaps (now (stripe .entry)) (now (bench .entry)) (now (bench .exit)) r ⌝ }
+{
+    let count = gaps.count;
+    let first = gaps.first;
+    if count == 2 {
+        columns::restore_two(stripe, bench, g, k, first, gaps.second);
+        return true;
+    }
+    if !fits::fits_but(stripe, g, k, first) {
+        return false;
+    }
+    if count == 0 {
+        return true;
+    }
+    columns::restore_one(stripe, bench, g, k, first);
+    true
+}
+
+// Column u is the only one that can be the wrong one: rewrites it where the others fit a valid stripe.
+fn mend_column(g: Grid, k: usize, stripe: &mut [u8], u: usize) -> Suspect
+    requires { ⌜ Blamed g k (now stripe) × Sure (g .m) k (g .b) (now stripe) u ⌝ }
+    ensures { λ r. ⌜ Patches (g .m) k (g .b) (now (stripe .entry)) (now (stripe .exit)) r ⌝ }
+{
+    if !fits::fits_but(stripe, g, k, u) {
+        return Suspect::Nobody;
+    }
+    blame::rewrite(stripe, g, k, u);
+    Suspect::Column(u)
+}
+
+// Finds the column that can be the wrong one, and rewrites it. The answer is that column; nothing, of a stripe that is sound; or nobody.
+pub fn mend_suspect(g: Grid, k: usize, stripe: &mut [u8]) -> Suspect
+    requires { ⌜ Blamed g k (now stripe) ⌝ }
+    ensures { λ r. ⌜ Patches (g .m) k (g .b) (now (stripe .entry)) (now (stripe .exit)) r ⌝ }
+{
+    match blame::locate(stripe, g, k) {
+        Suspect::Nothing => Suspect::Nothing,
+        Suspect::Nobody => Suspect::Nobody,
+        Suspect::Column(u) => mend_column(g, k, stripe, u),
+    }
+}

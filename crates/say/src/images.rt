@@ -1,0 +1,55 @@
+// A line for each operation on an image, in the form `CASE OPERATION ANSWER`.
+use crate::lines::say_four;
+use crate::lines::say_last;
+use crate::writing::say_flat;
+use crate::writing::say_head;
+use crate::writing::say_map;
+use crate::writing::say_word;
+use image::Contents;
+use image::Read;
+
+// The answer, the shape and the map of an image.
+fn say_contents(out: &mut [u8], at: usize, found: Contents) -> usize {
+    let map = found.map;
+    let answer = found.answer;
+    let next = say_read(out, at, answer);
+    say_map(out, next, map)
+}
+
+fn say_read(out: &mut [u8], at: usize, answer: Read) -> usize {
+    match answer {
+        Read::Shape { m, k, b } => say_four(out, at, 0, m, k, b),
+        Read::Refused(f) => say_four(out, at, f.number() as usize, 0, 0, 0),
+    }
+}
+
+// What an image says: the answer, the shape and the map.
+pub fn contents_line(out: &mut [u8], at: usize, name: &[u8], image: &[u8]) -> usize {
+    let first = say_head(out, at, name, b" contents");
+    let second = say_contents(out, first, image::contents(image));
+    say_word(out, second, b"\n")
+}
+
+// Reads an image: the same, and the stripe after it.
+pub fn read_line(out: &mut [u8], at: usize, name: &[u8], image: &[u8], stripe: &mut [u8]) -> usize {
+    let first = say_head(out, at, name, b" read");
+    let found = image::read(image, stripe);
+    let second = say_contents(out, first, found);
+    say_last(out, second, stripe)
+}
+
+// The report of an image on one line.
+fn say_report(out: &mut [u8], at: usize, image: &[u8]) -> usize {
+    let mut stripe = [0u8; 10];
+    let mut bench = [0u8; 4];
+    let mut words = [0u8; 102400];
+    let end = report::report(image, &mut stripe, &mut bench, &mut words);
+    say_flat(out, at, &words[0..end])
+}
+
+// Reports an image of a stripe of ten bytes, as the program `shelf` does.
+pub fn report_line(out: &mut [u8], at: usize, name: &[u8], image: &[u8]) -> usize {
+    let first = say_head(out, at, name, b" shelf ");
+    let second = say_report(out, first, image);
+    say_word(out, second, b"\n")
+}

@@ -1,0 +1,162 @@
+// A line for each operation, in the form `CASE OPERATION ANSWER`.
+use crate::writing::say_bytes;
+use crate::writing::say_head;
+use crate::writing::say_number;
+use crate::writing::say_word;
+use evenodd::Checked;
+use evenodd::Encoded;
+use evenodd::Map;
+use evenodd::Mended;
+use evenodd::Place;
+use evenodd::Restored;
+
+// Two numbers.
+fn say_two(out: &mut [u8], at: usize, x: usize, y: usize) -> usize {
+    let next = say_number(out, at, x);
+    say_number(out, next, y)
+}
+
+// Three numbers.
+fn say_three(out: &mut [u8], at: usize, x: usize, y: usize, z: usize) -> usize {
+    let next = say_number(out, at, x);
+    say_two(out, next, y, z)
+}
+
+// Four numbers.
+pub(crate) fn say_four(out: &mut [u8], at: usize, w: usize, x: usize, y: usize, z: usize) -> usize {
+    let next = say_number(out, at, w);
+    say_three(out, next, x, y, z)
+}
+
+// Bytes, and the end of the line.
+pub(crate) fn say_last(out: &mut [u8], at: usize, bytes: &[u8]) -> usize {
+    let next = say_bytes(out, at, bytes);
+    say_word(out, next, b"\n")
+}
+
+fn say_encoded(out: &mut [u8], at: usize, answer: Encoded) -> usize {
+    match answer {
+        Encoded::Done => say_number(out, at, 0),
+        Encoded::Refused(f) => say_number(out, at, f.number() as usize),
+    }
+}
+
+// Encodes: the answer and the stripe.
+pub fn encode_line(
+    out: &mut [u8],
+    at: usize,
+    name: &[u8],
+    m: usize,
+    k: usize,
+    b: usize,
+    stripe: &mut [u8],
+) -> usize {
+    let first = say_head(out, at, name, b" encode");
+    let answer = evenodd::encode(m, k, b, stripe);
+    let second = say_encoded(out, first, answer);
+    say_last(out, second, stripe)
+}
+
+fn say_checked(out: &mut [u8], at: usize, answer: Checked) -> usize {
+    match answer {
+        Checked::Intact => say_three(out, at, 0, 0, 0),
+        Checked::Broken { rows, diagonals } => say_three(out, at, 0, rows, diagonals),
+        Checked::Refused(f) => say_three(out, at, f.number() as usize, 0, 0),
+    }
+}
+
+// Checks: the answer and the two counts.
+pub fn check_line(
+    out: &mut [u8],
+    at: usize,
+    name: &[u8],
+    m: usize,
+    k: usize,
+    b: usize,
+    stripe: &[u8],
+) -> usize {
+    let first = say_head(out, at, name, b" check");
+    let answer = evenodd::check(m, k, b, stripe);
+    let second = say_checked(out, first, answer);
+    say_word(out, second, b"\n")
+}
+
+fn say_restored(out: &mut [u8], at: usize, answer: Restored) -> usize {
+    match answer {
+        Restored::Columns {
+            count,
+            first,
+            second,
+        } => say_four(out, at, 0, count, first, second),
+        Restored::Refused(f) => say_four(out, at, f.number() as usize, 0, 129, 129),
+    }
+}
+
+// Restores: the answer, how many columns and which, and the bench.
+pub fn restore_line(
+    out: &mut [u8],
+    at: usize,
+    name: &[u8],
+    m: usize,
+    k: usize,
+    b: usize,
+    map: Map,
+    stripe: &[u8],
+    bench: &mut [u8],
+) -> usize {
+    let first = say_head(out, at, name, b" restore");
+    let answer = evenodd::restore(m, k, b, map, stripe, bench);
+    let second = say_restored(out, first, answer);
+    say_last(out, second, bench)
+}
+
+fn say_placed(out: &mut [u8], at: usize, answer: Place) -> usize {
+    match answer {
+        Place::InStripe { start, length } => say_four(out, at, 0, 0, start, length),
+        Place::InBench { start, length } => say_four(out, at, 0, 1, start, length),
+        Place::Refused(f) => say_four(out, at, f.number() as usize, 0, 0, 0),
+    }
+}
+
+// Shows: the answer, whether it is from the bench, where it starts and how long it is.
+pub fn show_line(
+    out: &mut [u8],
+    at: usize,
+    name: &[u8],
+    m: usize,
+    k: usize,
+    b: usize,
+    map: Map,
+    stripe: &[u8],
+    bench: &[u8],
+    column: usize,
+) -> usize {
+    let first = say_head(out, at, name, b" show");
+    let answer = evenodd::place_of(m, k, b, map, stripe, bench, column);
+    let second = say_placed(out, first, answer);
+    say_word(out, second, b"\n")
+}
+
+fn say_mended(out: &mut [u8], at: usize, answer: Mended) -> usize {
+    match answer {
+        Mended::Intact => say_two(out, at, 0, 129),
+        Mended::Column(u) => say_two(out, at, 0, u),
+        Mended::Refused(f) => say_two(out, at, f.number() as usize, 129),
+    }
+}
+
+// Mends: the answer, the column and the stripe.
+pub fn mend_line(
+    out: &mut [u8],
+    at: usize,
+    name: &[u8],
+    m: usize,
+    k: usize,
+    b: usize,
+    stripe: &mut [u8],
+) -> usize {
+    let first = say_head(out, at, name, b" mend");
+    let answer = evenodd::mend(m, k, b, stripe);
+    let second = say_mended(out, first, answer);
+    say_last(out, second, stripe)
+}
