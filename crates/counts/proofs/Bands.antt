@@ -16,8 +16,8 @@ use Rattle.cells.specs.Runs.{Put, Tells}
 use Rattle.cells.proofs.Parts.{part, part-at}
 use Rattle.cells.proofs.Puts.{put-part, put-count}
 use Rattle.cells.proofs.Tells.{tells-same}
-use Rattle.fill.specs.Fill.{Lined}
-use Rattle.fill.proofs.Rows.{Grown, lined-more}
+use Rattle.lines.specs.Rows.{Lined}
+use Rattle.lines.proofs.Rows.{Grown, lined-more}
 
 -- as many rows as a band has room for
 pub band-some : (b n : ℕ) → 0 < b → b ≤ n → 0 < n / b

@@ -10,7 +10,7 @@ ghost use Rattle.parity.specs.Stripe.{lane, brokenRows, brokenDiagonals};
 ghost use Rattle.cells.specs.Runs.{Put, Tells};
 ghost use Rattle.lines.specs.Lines.{Sized};
 ghost use Rattle.lines.specs.Places.{total, Within, Listed};
-ghost use Rattle.fill.specs.Fill.{Lined};
+ghost use Rattle.lines.specs.Rows.{Lined};
 ghost use Rattle.counts.specs.Counts.{breaking};
 ghost use Rattle.counts.specs.But.{endsBut, partBut, windowBut, lineBut};
 

@@ -4,7 +4,7 @@ use Prim.Native.Nat.{ℕ, _+_, _-_, _≤_}
 use lib.ListN.{length}
 use denote.Ref.{now}
 use Rattle.parity.specs.Stripe.{lane}
-use Rattle.fill.proofs.Rows.{Grown, grown-none, grown-both, grown-same}
+use Rattle.lines.proofs.Rows.{Grown, grown-none, grown-both, grown-same}
 use Rattle.counts.specs.But.{windowBut}
 use Rattle.counts.proofs.Buts.{window-none, window-join, window-line}
 use borrow.Author.Needs.{needs}

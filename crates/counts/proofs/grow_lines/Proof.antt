@@ -7,7 +7,7 @@ use Rattle.parity.specs.Xor.{_⊕_}
 use Rattle.parity.specs.Stripe.{lane}
 use Rattle.cells.specs.Runs.{Put}
 use Rattle.cells.proofs.Parts.{parts-end}
-use Rattle.fill.proofs.Rows.{Grown, lined-none, lined-count, grown-more}
+use Rattle.lines.proofs.Rows.{Grown, lined-none, lined-count, grown-more}
 use Rattle.counts.specs.But.{windowBut}
 use borrow.Author.Needs.{needs}
 use native.Mathlib.Omega.{arith}

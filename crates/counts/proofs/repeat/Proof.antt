@@ -3,8 +3,8 @@ use Prim.Native.Nat.{_-_, _≤_}
 use lib.ListN.{length, getD, length-take, length-drop}
 use denote.Ref.{now}
 use Rattle.cells.proofs.Parts.{parts-end}
-use Rattle.fill.specs.Fill.{Lined}
-use Rattle.fill.proofs.Rows.{lined-none, lined-count}
+use Rattle.lines.specs.Rows.{Lined}
+use Rattle.lines.proofs.Rows.{lined-none, lined-count}
 use Rattle.counts.proofs.Bands.{cell-copied}
 use borrow.Author.Needs.{needs}
 use native.Mathlib.Omega.{arith}
