@@ -1,23 +1,20 @@
 -- What is counted are the amounts by which the equations break.
---   rows-amounts, diagonals-amounts
+--   broken-rows, broken-diagonals
 use mathlib.Core.Path.{_≡_, ap}
 use mathlib.Core.Bool.{not}
 use mathlib.Core.List.{List}
 use Prim.Native.Nat.{ℕ, _+_, _-_, _≤_, _<_}
 use lib.Dec.{eqb}
-use lib.ListN.{getD}
 use Rattle.parity.specs.Stripe.{lane, brokenRows, brokenDiagonals}
 use Rattle.parity.proofs.Count.{count-cong, some-cong}
-use Rattle.lines.specs.Lines.{line, rest}
-use Rattle.lines.proofs.Equations.{rest-h, rest-d}
 use Rattle.counts.specs.Counts.{breaking}
+use Rattle.counts.proofs.Buts.{rest, rest-H, rest-D}
 
-module _ (m k b : ℕ) (big : 1 < m) (few : k ≤ m) (s x : List ℕ) where
-  pub rows-amounts : ((l : ℕ) → l < b → getD x l 0 ≡ 0) → breaking m b (λ l i. rest x m (lane m b s l) 0 i k k l) ≡ brokenRows m k b s
+module _ (m k b : ℕ) (big : 1 < m) (few : k ≤ m) (s : List ℕ) where
+  pub broken-rows : breaking (m - 1) b (λ l i. rest m k big few (lane m b s l) (k + 1) i) ≡ brokenRows m k b s
   unfolding breaking brokenRows
-  rows-amounts e = count-cong (m - 1) (λ i h. some-cong b (λ l hl. ap (λ (v : ℕ). not (eqb v 0)) (rest-h m k few (lane m b s l) x l i h (e l hl))))
+  broken-rows = count-cong (m - 1) (λ i h. some-cong b (λ l _. ap (λ (v : ℕ). not (eqb v 0)) (rest-D m k big few (lane m b s l) i h)))
 
-  pub diagonals-amounts : ((l : ℕ) → l < b → getD x l 0 ≡ line m (lane m b s l) 1 (m - 1) k)
-      → breaking m b (λ l i. rest x m (lane m b s l) 1 i k (k + 1) l) ≡ brokenDiagonals m k b s
+  pub broken-diagonals : breaking (m - 1) b (λ l i. rest m k big few (lane m b s l) k i) ≡ brokenDiagonals m k b s
   unfolding breaking brokenDiagonals
-  diagonals-amounts e = count-cong (m - 1) (λ i h. some-cong b (λ l hl. ap (λ (v : ℕ). not (eqb v 0)) (rest-d m k few (lane m b s l) big x l i h (e l hl))))
+  broken-diagonals = count-cong (m - 1) (λ i h. some-cong b (λ l _. ap (λ (v : ℕ). not (eqb v 0)) (rest-H m k big few (lane m b s l) i h)))

@@ -1,2 +1,4 @@
+pub mod Buts
 pub mod Folds
+pub mod Bands
 pub mod Amounts

@@ -1,33 +1,30 @@
 -- `counts::fold_long` meets its contract. The invariant: o tells of the lanes before j. The last block may tell of some of them again.
-use mathlib.Core.Path.{_≡_, subst}
-use Prim.Native.Nat.{ℕ, _+_, _-_, _≤_}
-use lib.Bits.{bitOr}
-use lib.ListN.{length}
+use mathlib.Core.Path.{_≡_}
+use Prim.Native.Nat.{_-_, _≤_}
+use lib.ListN.{length, getD}
 use denote.Ref.{now}
-use Rattle.parity.specs.Stripe.{lane}
+use Rattle.parity.specs.Xor.{_⊕_}
 use Rattle.cells.specs.Runs.{Tells}
-use Rattle.cells.proofs.Tells.{tells-none, tells-next}
+use Rattle.cells.proofs.Tells.{tells-none}
+use Rattle.lines.specs.Places.{total}
+use Rattle.counts.proofs.Folds.{block-next, block-last}
 use borrow.Author.Needs.{needs}
 use native.Mathlib.Omega.{arith}
-use Rattle.lines.specs.Lines.{rest}
 use Rattle.counts.proofs.fold_long.Statement.{statement}
 use Rattle.counts.proofs.fold_long.Tie as tie
 
 abbrev Inv-loop : tie.InvT-loop
-Inv-loop seed s g slant i k t last acc₀ o₀ j₀ acc o j =
-    (last ≡ g .b - 128) × (j ≤ g .b) × (length acc ≡ 128) × Tells o j (λ l. rest seed (g .m) (lane (g .m) (g .b) s l) slant i k t l)
+Inv-loop seed s b at last acc₀ o₀ j₀ acc o j =
+    (last ≡ b - 128) × (j ≤ b) × (length acc ≡ 128) × Tells o j (λ l. getD seed l 0 ⊕ total at (length at) s l)
 
 abbrev μ-loop : tie.MeasureT-loop
-μ-loop seed s g slant i k t last acc₀ o₀ j₀ acc o j = g .b - j
+μ-loop seed s b at last acc₀ o₀ j₀ acc o j = b - j
 
 sub-last : tie.Need-sub-last Inv-loop μ-loop
 sub-last c = search needs
 
 loop-holds : tie.Need-loop-holds Inv-loop μ-loop
-loop-holds c =
-    let a = c .before .before .before .args in
-    let f : ℕ → ℕ = λ l. rest (now (a .seed)) (a .g .m) (lane (a .g .m) (a .g .b) (now (a .s)) l) (a .slant) (a .i) (a .k) (a .t) l in
-    (search needs, search needs, search needs, tells-none f)
+loop-holds c = (search needs, search needs, search needs, tells-none _)
 
 slice-aggregate-fold-part : tie.Need-slice-aggregate-fold-part Inv-loop μ-loop
 slice-aggregate-fold-part c = search needs
@@ -35,7 +32,8 @@ slice-aggregate-fold-part c = search needs
 fold-part-requires : tie.Need-fold-part-requires Inv-loop μ-loop
 fold-part-requires c κs =
     let z = c .before .before .before .before .before .before in
-    (λ h. omega (arith, z .pre .1 h), omega arith, z .pre .2, z .pre .3, z .pre .4)
+    let y = c .before .before .loop in
+    (omega (arith, z .pre .1, y .inv .2, c .before .loop-test .taken), λ x h. omega (arith, z .pre .2 x h, y .inv .2, c .before .loop-test .taken))
 
 add-j : tie.Need-add-j Inv-loop μ-loop
 add-j c = search needs
@@ -45,11 +43,9 @@ loop-less c = search needs
 
 loop-again : tie.Need-loop-again Inv-loop μ-loop
 loop-again c =
-    let at = c .before .before .before .before .loop in
+    let y = c .before .before .before .before .loop in
     let r = c .before .fold-part in
-    let a = c .before .before .before .before .before .before .before .before .args in
-    let f : ℕ → ℕ = λ l. rest (now (a .seed)) (a .g .m) (lane (a .g .m) (a .g .b) (now (a .s)) l) (a .slant) (a .i) (a .k) (a .t) l in
-    (search needs, search needs, search needs, tells-next (at .o) (r .result) (at .j) (at .j) 128 f (omega arith) (omega arith) (at .inv .3) (subst (λ (n : ℕ). Tells (r .result) n (λ l. f (at .j + l))) (at .inv .2) (r .ensures)))
+    (search needs, omega arith, search needs, block-next (y .o) (r .result) (y .j) 128 _ _ (y .inv .2) (y .inv .3) (r .ensures))
 
 slice-aggregate-fold-part-2 : tie.Need-slice-aggregate-fold-part-2 Inv-loop μ-loop
 slice-aggregate-fold-part-2 c = search needs
@@ -57,17 +53,16 @@ slice-aggregate-fold-part-2 c = search needs
 fold-part-requires-2 : tie.Need-fold-part-requires-2 Inv-loop μ-loop
 fold-part-requires-2 c κs =
     let z = c .before .before .before .before .before .before in
-    (λ h. omega (arith, z .pre .1 h), omega arith, z .pre .2, z .pre .3, z .pre .4)
+    let y = c .before .before .loop in
+    (omega (arith, z .pre .0, z .pre .1, y .inv .2), λ x h. omega (arith, z .pre .2 x h, z .pre .0, y .inv .2))
 
 returns : tie.Need-returns Inv-loop μ-loop
 returns c =
-    let at = c .before .before .before .before .loop in
+    let z = c .before .before .before .before .before .before .before .before in
+    let a = z .args in
+    let y = c .before .before .before .before .loop in
     let r = c .before .fold-part2 in
-    let a = c .before .before .before .before .before .before .before .before .args in
-    let f : ℕ → ℕ = λ l. rest (now (a .seed)) (a .g .m) (lane (a .g .m) (a .g .b) (now (a .s)) l) (a .slant) (a .i) (a .k) (a .t) l in
-    let y : ℕ = a .g .b - 128 in
-    let e : y + 128 ≡ a .g .b = omega arith in
-    subst (λ (n : ℕ). Tells (bitOr (at .o) (r .result)) n f) e (tells-next (at .o) (r .result) (at .j) y 128 f (omega arith) (omega arith) (at .inv .3) (subst (λ (n : ℕ). Tells (r .result) n (λ l. f (y + l))) (at .inv .2) (r .ensures)))
+    block-last (y .o) (r .result) (y .j) 128 _ (a .b) (λ l. getD (now (a .seed)) l 0 ⊕ total (now (a .at)) (length (now (a .at))) (now (a .s)) l) (y .inv .2) (z .pre .0) (omega arith) (y .inv .1) (y .inv .3) (r .ensures)
 
 pub fold-long-spec : {M : Type 1} → statement M
 fold-long-spec =

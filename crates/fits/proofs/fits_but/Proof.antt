@@ -1,6 +1,6 @@
--- `fits::fits_but` meets its contract: 0 says that no line differs from line m - 1, which is that the candidate's equations hold.
+-- `fits::fits_but` meets its contract: no line differs from line m - 1 exactly when the candidate's equations hold.
 use denote.Ref.{now}
-use Rattle.fits.proofs.Tests.{fits-one, fits-none}
+use Rattle.fits.proofs.Tests.{fits-one, fits-none, breaks-none}
 use borrow.Author.Needs.{needs}
 use Rattle.fits.proofs.fits_but.Statement.{statement}
 use Rattle.fits.proofs.fits_but.Tie as tie
@@ -8,38 +8,45 @@ use Rattle.fits.proofs.fits_but.Tie as tie
 add-if1 : tie.Need-add-if1
 add-if1 c = search needs
 
-fold-all-requires : tie.Need-fold-all-requires
-fold-all-requires c κs = search needs
+count-lines-requires : tie.Need-count-lines-requires
+count-lines-requires c κs = search needs
 
 returns : tie.Need-returns
 returns c =
     let z = c .before .before .before in
     let a = z .args in
-    fits-one (a .g .m) (a .k) (a .g .b) (z .pre .0 .big) (z .pre .2) (now (a .s)) (a .u) (c .before .if1 .taken) (c .fold-all .ensures)
+    fits-one (a .g .m) (a .k) (a .g .b) (z .pre .0 .big) (z .pre .2) (now (a .s)) (a .u) (c .before .if1 .taken) (c .count-lines .ensures)
 
-fold-all-requires-2 : tie.Need-fold-all-requires-2
-fold-all-requires-2 c κs = search needs
-
-add-fold-all : tie.Need-add-fold-all
-add-fold-all c = search needs
-
-fold-all-requires-3 : tie.Need-fold-all-requires-3
-fold-all-requires-3 c κs = search needs
+count-lines-requires-2 : tie.Need-count-lines-requires-2
+count-lines-requires-2 c κs = search needs
 
 returns-2 : tie.Need-returns-2
 returns-2 c =
     let z = c .before .before .before .before in
     let a = z .args in
-    fits-none (a .g .m) (a .k) (a .g .b) (z .pre .0 .big) (z .pre .2) (now (a .s)) (a .u) (c .before .before .if1 .left) (c .before .fold-all2 .ensures) (c .fold-all3 .ensures)
+    breaks-none (a .g .m) (a .k) (a .g .b) (z .pre .0 .big) (z .pre .2) (now (a .s)) (a .u) (c .before .before .if1 .left) (c .before .count-lines2 .ensures) (c .if2 .taken)
+
+add-count-lines : tie.Need-add-count-lines
+add-count-lines c = search needs
+
+count-lines-requires-3 : tie.Need-count-lines-requires-3
+count-lines-requires-3 c κs = search needs
+
+returns-3 : tie.Need-returns-3
+returns-3 c =
+    let z = c .before .before .before .before .before in
+    let a = z .args in
+    fits-none (a .g .m) (a .k) (a .g .b) (z .pre .0 .big) (z .pre .2) (now (a .s)) (a .u) (c .before .before .before .if1 .left) (c .before .before .count-lines2 .ensures) (c .before .if2 .left) (c .count-lines3 .ensures)
 
 pub fits-but-spec : {M : Type 1} → statement M
 fits-but-spec =
     tie.close
     (tie.spec
     add-if1
-    fold-all-requires
+    count-lines-requires
     returns
-    fold-all-requires-2
-    add-fold-all
-    fold-all-requires-3
-    returns-2)
+    count-lines-requires-2
+    returns-2
+    add-count-lines
+    count-lines-requires-3
+    returns-3)
