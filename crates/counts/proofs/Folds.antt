@@ -4,7 +4,6 @@
 --   listed-total, listed-in   places that were listed first, lent as a part: what their cells add up to, and that they end within the bytes
 --   fold                      a run that was set, added to and or-ed together tells of the sums
 --   block-next, block-last    one block more was told of, and the last, which may overlap those before
---   grow-more                 after the first j lanes of a cell that is added to, the next n
 --   breaking-zero, zero-breaking   nothing is counted exactly where all is zero
 --   breaking-…                no line, one more, the same bytes by another name, more lines after the first, and at most so many
 use mathlib.Core.Path.{_≡_, refl, sym, ap, _∙_, subst}
@@ -24,7 +23,6 @@ use Rattle.parity.proofs.Xor.{zero-⊕}
 use Rattle.parity.proofs.Count.{count-cong, count-most, none-pass, all-fail, some-cong, some-false, false-some}
 use Rattle.cells.specs.Runs.{Added, Put, Tells}
 use Rattle.cells.proofs.Parts.{part}
-use Rattle.cells.proofs.Puts.{put-next, put-same}
 use Rattle.cells.proofs.Tells.{tells-next}
 use Rattle.lines.specs.Lines.{Sized, Crosses}
 use Rattle.lines.specs.Places.{total, Within, Listed}
@@ -87,13 +85,6 @@ pub block-last : (o r j n x b : ℕ) (f : ℕ → ℕ) → x ≡ n → n ≤ b �
 block-last o r j n x b f e h low high t s =
     let q : b - n + n ≡ b = omega arith in
     subst (λ (y : ℕ). Tells (bitOr o r) y f) q (tells-next o r j (b - n) n f low (omega arith) t (subst (λ (y : ℕ). Tells r y (λ l. f (b - n + l))) e s))
-
-pub grow-more : (w t u : List ℕ) (to j n : ℕ) (h : ℕ → ℕ) → Put w t to j (λ l. getD w (to + l) 0 ⊕ h l)
-    → Put t u (to + j) n (λ l. getD t (to + j + l) 0 ⊕ h (j + l)) → Put w u to (j + n) (λ l. getD w (to + l) 0 ⊕ h l)
-grow-more w t u to j n h p q =
-    put-next w t u to j j n (λ l. getD w (to + l) 0 ⊕ h l) (λ l. getD t (to + l) 0 ⊕ h l) (omega arith) (omega arith) p
-    (put-same q (λ l _. let e : to + j + l ≡ to + (j + l) = omega arith in ap (λ (x : ℕ). getD t x 0 ⊕ h (j + l)) e))
-    (λ l above below. ap (λ (x : ℕ). x ⊕ h l) (p .after (to + l) (omega arith)))
 
 -- ---- counting
 

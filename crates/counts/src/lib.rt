@@ -8,7 +8,7 @@ ghost use lib.ListN.{length, getD};
 ghost use Rattle.parity.specs.Xor.{_⊕_};
 ghost use Rattle.parity.specs.Stripe.{lane, brokenRows, brokenDiagonals};
 ghost use Rattle.cells.specs.Runs.{Put, Tells};
-ghost use Rattle.lines.specs.Lines.{Sized};
+ghost use Rattle.lines.specs.Lines.{seedOf, Sized};
 ghost use Rattle.lines.specs.Places.{total, Within, Listed};
 ghost use Rattle.lines.specs.Rows.{Lined};
 ghost use Rattle.counts.specs.Counts.{breaking};
@@ -152,49 +152,6 @@ fn fold_line(at: &mut [usize], seed: &[u8], s: &[u8], g: Grid, k: usize, u: usiz
     fold_cells(seed, s, b, &at[0..n])
 }
 
-// The lanes from j on, as many as acc has, of the cell of w at `to` get the cells of s at those places added. acc is room for them.
-fn grow_part(acc: &mut [u8], w: &mut [u8], s: &[u8], at: &[usize], to: usize, j: usize)
-    requires { ⌜ (to + j + length (now acc) ≤ length (now w)) × Within (now at) (length (now at)) (j + length (now acc)) (length (now s)) ⌝ }
-    ensures { λ _. ⌜ Put (now (w .entry)) (now (w .exit)) (to + j) (length (now (acc .entry))) (λ l. getD (now (w .entry)) (to + j + l) 0 ⊕ total (now (at .entry)) (length (now (at .entry))) (now (s .entry)) (j + l)) ⌝ }
-{
-    let p = to + j;
-    lines::start(acc, w, p);
-    lines::add_cells(acc, s, at, j);
-    cells::copy_into(&mut w[p..p + acc.len()], acc);
-}
-
-// The same for the first lanes of a cell of b lanes, 128 at a time, as far as they go. The number of lanes done.
-fn grow_blocks(w: &mut [u8], s: &[u8], b: usize, at: &[usize], to: usize) -> usize
-    requires { ⌜ (to + b ≤ length (now w)) × Within (now at) (length (now at)) b (length (now s)) ⌝ }
-    ensures { λ j. ⌜ (j ≤ b) × (b - j < 128) × Put (now (w .entry)) (now (w .exit)) to j (λ l. getD (now (w .entry)) (to + l) 0 ⊕ total (now (at .entry)) (length (now (at .entry))) (now (s .entry)) l) ⌝ }
-{
-    let mut acc = [0u8; 128];
-    let mut j: usize = 0;
-    while 128 <= b - j {
-        grow_part(&mut acc, w, s, at, to, j);
-        j += 128;
-    }
-    j
-}
-
-// The same for the lanes from j on, of which there are fewer than 128.
-fn grow_rest(w: &mut [u8], s: &[u8], b: usize, at: &[usize], to: usize, j: usize)
-    requires { ⌜ (to + b ≤ length (now w)) × (j ≤ b) × (b - j < 128) × Within (now at) (length (now at)) b (length (now s)) ⌝ }
-    ensures { λ _. ⌜ Put (now (w .entry)) (now (w .exit)) (to + j) (b - j) (λ l. getD (now (w .entry)) (to + j + l) 0 ⊕ total (now (at .entry)) (length (now (at .entry))) (now (s .entry)) (j + l)) ⌝ }
-{
-    let mut rest = [0u8; 128];
-    grow_part(&mut rest[0..b - j], w, s, at, to, j);
-}
-
-// The cell of w at `to`, of b lanes, gets the cells of s at those places added.
-fn grow_cell(w: &mut [u8], s: &[u8], b: usize, at: &[usize], to: usize)
-    requires { ⌜ (to + b ≤ length (now w)) × Within (now at) (length (now at)) b (length (now s)) ⌝ }
-    ensures { λ _. ⌜ Put (now (w .entry)) (now (w .exit)) to b (λ l. getD (now (w .entry)) (to + l) 0 ⊕ total (now (at .entry)) (length (now (at .entry))) (now (s .entry)) l) ⌝ }
-{
-    let j = grow_blocks(w, s, b, at, to);
-    grow_rest(w, s, b, at, to, j);
-}
-
 // sum becomes line m - 1. at is room for the places of its cells.
 fn sum_line(at: &mut [usize], sum: &mut [u8], s: &[u8], g: Grid, k: usize, u: usize)
     requires { ⌜ (length (now sum) ≡ g .b) × (2 + 2 * k ≤ length (now at)) × (k ≤ g .m) × Sized (g .m) (g .b) (g .column) × (length (now s) ≡ (k + 2) * g .column) ⌝ }
@@ -202,9 +159,8 @@ fn sum_line(at: &mut [usize], sum: &mut [u8], s: &[u8], g: Grid, k: usize, u: us
 {
     let m = g.m;
     let b = g.b;
-    cells::zero(sum);
     let n = find_line(at, g, k, u, m - 1, 0, k);
-    grow_cell(sum, s, b, &at[0..n], 0);
+    fill::fill_places(sum, &s[0..0], true, s, b, &at[0..n], 0);
 }
 
 // How many of lines 0 to m - 2 differ from the cell sum.
@@ -241,23 +197,13 @@ fn count_few(s: &[u8], g: Grid, k: usize, u: usize) -> usize
     count_summed(&mut at, &mut sum[0..b], s, g, k, u)
 }
 
-// Each of the first n cells of w becomes the cell x.
-fn repeat(w: &mut [u8], x: &[u8], n: usize)
-    requires { ⌜ n * length (now x) ≤ length (now w) ⌝ }
-    ensures { λ _. ⌜ Lined n (length (now (x .entry))) 0 (now (w .entry)) (now (w .exit)) (λ r l. getD (now (x .entry)) l 0) ⌝ }
-{
-    let b = x.len();
-    for r in 0..n {
-        let at = r * b;
-        cells::copy_into(&mut w[at..at + b], x);
-    }
-}
-
-// The cell of w at `to` gets the cells that line d has in the data columns from t0 up to t1, and where these are the last also in H and
-// D, added. at is room for their places.
+// The cell of w at `to` becomes the seed plus the cells that line d has in the data columns from t0 up to t1, and where these are the
+// last also in H and D. The seed is the cell `seed`, or, where the cell is not set afresh, what it holds. at is room for places.
 fn grow_line(
     at: &mut [usize],
     w: &mut [u8],
+    seed: &[u8],
+    fresh: bool,
     s: &[u8],
     g: Grid,
     k: usize,
@@ -267,18 +213,20 @@ fn grow_line(
     t1: usize,
     to: usize,
 )
-    requires { ⌜ (to + g .b ≤ length (now w)) × (2 + 2 * (t1 - t0) ≤ length (now at)) × (d < g .m) × (t0 ≤ t1) × (t1 ≤ k) × (k ≤ g .m) × Sized (g .m) (g .b) (g .column) × (length (now s) ≡ (k + 2) * g .column) ⌝ }
-    ensures { λ _. ⌜ Put (now (w .entry)) (now (w .exit)) to (g .b) (λ l. getD (now (w .entry)) (to + l) 0 ⊕ windowBut (g .m) k (lane (g .m) (g .b) (now (s .entry)) l) u d t0 t1) ⌝ }
+    requires { ⌜ (to + g .b ≤ length (now w)) × (length (now seed) ≡ g .b) × (2 + 2 * (t1 - t0) ≤ length (now at)) × (d < g .m) × (t0 ≤ t1) × (t1 ≤ k) × (k ≤ g .m) × Sized (g .m) (g .b) (g .column) × (length (now s) ≡ (k + 2) * g .column) ⌝ }
+    ensures { λ _. ⌜ Put (now (w .entry)) (now (w .exit)) to (g .b) (λ l. seedOf fresh (now (seed .entry)) (now (w .entry)) to l ⊕ windowBut (g .m) k (lane (g .m) (g .b) (now (s .entry)) l) u d t0 t1) ⌝ }
 {
     let b = g.b;
     let n = find_line(at, g, k, u, d, t0, t1);
-    grow_cell(w, s, b, &at[0..n], to);
+    fill::fill_places(w, seed, fresh, s, b, &at[0..n], to);
 }
 
-// Of the first n cells of w each cell r gets the same of line first + r added.
+// Of the first n cells of w each cell r becomes the same of line first + r.
 fn grow_lines(
     at: &mut [usize],
     w: &mut [u8],
+    seed: &[u8],
+    fresh: bool,
     s: &[u8],
     g: Grid,
     k: usize,
@@ -288,19 +236,20 @@ fn grow_lines(
     t0: usize,
     t1: usize,
 )
-    requires { ⌜ (n * g .b ≤ length (now w)) × (2 + 2 * (t1 - t0) ≤ length (now at)) × (first + n ≤ g .m) × (t0 ≤ t1) × (t1 ≤ k) × (k ≤ g .m) × Sized (g .m) (g .b) (g .column) × (length (now s) ≡ (k + 2) * g .column) ⌝ }
-    ensures { λ _. ⌜ Lined n (g .b) 0 (now (w .entry)) (now (w .exit)) (λ r l. getD (now (w .entry)) (0 + (r * g .b + l)) 0 ⊕ windowBut (g .m) k (lane (g .m) (g .b) (now (s .entry)) l) u (first + r) t0 t1) ⌝ }
+    requires { ⌜ (n * g .b ≤ length (now w)) × (length (now seed) ≡ g .b) × (2 + 2 * (t1 - t0) ≤ length (now at)) × (first + n ≤ g .m) × (t0 ≤ t1) × (t1 ≤ k) × (k ≤ g .m) × Sized (g .m) (g .b) (g .column) × (length (now s) ≡ (k + 2) * g .column) ⌝ }
+    ensures { λ _. ⌜ Lined n (g .b) 0 (now (w .entry)) (now (w .exit)) (λ r l. seedOf fresh (now (seed .entry)) (now (w .entry)) (r * g .b) l ⊕ windowBut (g .m) k (lane (g .m) (g .b) (now (s .entry)) l) u (first + r) t0 t1) ⌝ }
 {
     let b = g.b;
     for r in 0..n {
-        grow_line(at, w, s, g, k, u, first + r, t0, t1, r * b);
+        grow_line(at, w, seed, fresh, s, g, k, u, first + r, t0, t1, r * b);
     }
 }
 
-// Of the first n cells of w each cell r gets line first + r added, in groups of at most eight data columns.
+// Of the first n cells of w each cell r becomes the cell sum plus line first + r, in groups of at most eight data columns.
 fn grow_band(
     at: &mut [usize],
     w: &mut [u8],
+    sum: &[u8],
     s: &[u8],
     g: Grid,
     k: usize,
@@ -308,13 +257,14 @@ fn grow_band(
     first: usize,
     n: usize,
 )
-    requires { ⌜ (n * g .b ≤ length (now w)) × (18 ≤ length (now at)) × (first + n ≤ g .m) × (1 ≤ k) × (k ≤ g .m) × Sized (g .m) (g .b) (g .column) × (length (now s) ≡ (k + 2) * g .column) ⌝ }
-    ensures { λ _. ⌜ Lined n (g .b) 0 (now (w .entry)) (now (w .exit)) (λ r l. getD (now (w .entry)) (0 + (r * g .b + l)) 0 ⊕ lineBut (g .m) k (lane (g .m) (g .b) (now (s .entry)) l) u (first + r)) ⌝ }
+    requires { ⌜ (n * g .b ≤ length (now w)) × (length (now sum) ≡ g .b) × (18 ≤ length (now at)) × (first + n ≤ g .m) × (9 ≤ k) × (k ≤ g .m) × Sized (g .m) (g .b) (g .column) × (length (now s) ≡ (k + 2) * g .column) ⌝ }
+    ensures { λ _. ⌜ Lined n (g .b) 0 (now (w .entry)) (now (w .exit)) (λ r l. getD (now (sum .entry)) l 0 ⊕ lineBut (g .m) k (lane (g .m) (g .b) (now (s .entry)) l) u (first + r)) ⌝ }
 {
-    let mut t: usize = 0;
+    let mut t = lines::group_end(0, k);
+    grow_lines(at, w, sum, true, s, g, k, u, first, n, 0, t);
     while t < k {
         let e = lines::group_end(t, k);
-        grow_lines(at, w, s, g, k, u, first, n, t, e);
+        grow_lines(at, w, sum, false, s, g, k, u, first, n, t, e);
         t = e;
     }
 }
@@ -346,12 +296,11 @@ fn count_band(
     first: usize,
     n: usize,
 ) -> usize
-    requires { ⌜ (length (now sum) ≡ g .b) × (n * g .b ≤ length (now band)) × (18 ≤ length (now at)) × (first + n ≤ g .m) × (1 ≤ k) × (k ≤ g .m) × Sized (g .m) (g .b) (g .column) × (length (now s) ≡ (k + 2) * g .column) ⌝ }
+    requires { ⌜ (length (now sum) ≡ g .b) × (n * g .b ≤ length (now band)) × (18 ≤ length (now at)) × (first + n ≤ g .m) × (9 ≤ k) × (k ≤ g .m) × Sized (g .m) (g .b) (g .column) × (length (now s) ≡ (k + 2) * g .column) ⌝ }
     ensures { λ c. ⌜ c ≡ breaking n (g .b) (λ l r. getD (now (sum .entry)) l 0 ⊕ lineBut (g .m) k (lane (g .m) (g .b) (now (s .entry)) l) u (first + r)) ⌝ }
 {
     let b = g.b;
-    repeat(band, sum, n);
-    grow_band(at, band, s, g, k, u, first, n);
+    grow_band(at, band, sum, s, g, k, u, first, n);
     count_cells(band, b, n)
 }
 
@@ -376,7 +325,7 @@ fn count_bands(
     k: usize,
     u: usize,
 ) -> usize
-    requires { ⌜ (length (now sum) ≡ g .b) × (g .b ≤ length (now band)) × (18 ≤ length (now at)) × (1 ≤ k) × (k ≤ g .m) × Sized (g .m) (g .b) (g .column) × (length (now s) ≡ (k + 2) * g .column) ⌝ }
+    requires { ⌜ (length (now sum) ≡ g .b) × (g .b ≤ length (now band)) × (18 ≤ length (now at)) × (9 ≤ k) × (k ≤ g .m) × Sized (g .m) (g .b) (g .column) × (length (now s) ≡ (k + 2) * g .column) ⌝ }
     ensures { λ c. ⌜ c ≡ breaking (g .m - 1) (g .b) (λ l d. getD (now (sum .entry)) l 0 ⊕ lineBut (g .m) k (lane (g .m) (g .b) (now (s .entry)) l) u d) ⌝ }
 {
     let last = g.m - 1;
@@ -401,7 +350,7 @@ fn count_banded(
     k: usize,
     u: usize,
 ) -> usize
-    requires { ⌜ (length (now sum) ≡ g .b) × (g .b ≤ length (now band)) × (2 + 2 * k ≤ length (now at)) × (8 ≤ k) × (k ≤ g .m) × Sized (g .m) (g .b) (g .column) × (length (now s) ≡ (k + 2) * g .column) ⌝ }
+    requires { ⌜ (length (now sum) ≡ g .b) × (g .b ≤ length (now band)) × (2 + 2 * k ≤ length (now at)) × (9 ≤ k) × (k ≤ g .m) × Sized (g .m) (g .b) (g .column) × (length (now s) ≡ (k + 2) * g .column) ⌝ }
     ensures { λ r. ⌜ r ≡ breaking (g .m - 1) (g .b) (λ l d. lineBut (g .m) k (lane (g .m) (g .b) (now (s .entry)) l) u (g .m - 1) ⊕ lineBut (g .m) k (lane (g .m) (g .b) (now (s .entry)) l) u d) ⌝ }
 {
     sum_line(at, sum, s, g, k, u);
@@ -410,7 +359,7 @@ fn count_banded(
 
 // The same where there are many columns, with room of its own.
 fn count_many(s: &[u8], g: Grid, k: usize, u: usize) -> usize
-    requires { ⌜ (8 ≤ k) × (k ≤ g .m) × Sized (g .m) (g .b) (g .column) × (length (now s) ≡ (k + 2) * g .column) ⌝ }
+    requires { ⌜ (9 ≤ k) × (k ≤ g .m) × Sized (g .m) (g .b) (g .column) × (length (now s) ≡ (k + 2) * g .column) ⌝ }
     ensures { λ r. ⌜ r ≡ breaking (g .m - 1) (g .b) (λ l d. lineBut (g .m) k (lane (g .m) (g .b) (now (s .entry)) l) u (g .m - 1) ⊕ lineBut (g .m) k (lane (g .m) (g .b) (now (s .entry)) l) u d) ⌝ }
 {
     let b = g.b;

@@ -132,7 +132,15 @@ fn fill_rest(
 
 // The cell at `to`, of b bytes, becomes the seed plus the cells of s at the places `at`. The seed is the cell `seed`, of which an empty
 // one is zero, or, where the cell is not set afresh, what it holds.
-fn fill_places(w: &mut [u8], seed: &[u8], fresh: bool, s: &[u8], b: usize, at: &[usize], to: usize)
+pub fn fill_places(
+    w: &mut [u8],
+    seed: &[u8],
+    fresh: bool,
+    s: &[u8],
+    b: usize,
+    at: &[usize],
+    to: usize,
+)
     requires { ⌜ (0 < length (now seed) → b ≤ length (now seed)) × (to + b ≤ length (now w)) × Within (now at) (length (now at)) b (length (now s)) ⌝ }
     ensures { λ _. ⌜ Put (now (w .entry)) (now (w .exit)) to b (λ l. seedOf fresh (now (seed .entry)) (now (w .entry)) to l ⊕ total (now (at .entry)) (length (now (at .entry))) (now (s .entry)) l) ⌝ }
 {
