@@ -37,8 +37,7 @@ pub(crate) fn judge_lent(
     if held != 2 * column {
         return Judged::Refused(Refusal::BenchLength);
     }
-    let places = map.places;
-    if marks::has_strays(places, k + 2) {
+    if map.strays(k + 2) {
         return Judged::Refused(Refusal::StrayColumn);
     }
     judged

@@ -1,12 +1,16 @@
-// The presence map: 129 places, each present or absent. Only this crate looks into its array.
+// The presence map: 129 places, each present or absent. Only this file looks into its array.
 use crate::shapes::Refusal;
+use marks::Gaps;
 ghost use mathlib.Core.Path.{_≡_};
 ghost use mathlib.Core.Bool.{true, false};
+ghost use mathlib.Core.Logic.{_↔_};
+ghost use Prim.Native.Nat.{_≤_};
+ghost use Rattle.marks.specs.Absent.{PresentFrom, Counts};
 ghost use Rattle.parity.specs.Presence.{present};
 ghost use Rattle.evenodd.specs.Maps.{New, OfBytes, AsBytes, Marks, JudgesPlace};
 
 pub struct Map {
-    pub(crate) places: [bool; 129],
+    places: [bool; 129],
 }
 
 // Whether a place can be marked, or why not.
@@ -81,5 +85,23 @@ impl Map {
             return false;
         }
         self.places[place]
+    }
+
+    // The absent places below n.
+    pub(crate) fn gaps(self, n: usize) -> Gaps
+        requires { ⌜ n ≤ 129 ⌝ }
+        ensures { λ r. ⌜ Counts n (self .places) r ⌝ }
+    {
+        let places = self.places;
+        marks::find_gaps(places, n)
+    }
+
+    // Whether a place from n on is present.
+    pub(crate) fn strays(self, n: usize) -> bool
+        requires { ⌜ n ≤ 129 ⌝ }
+        ensures { λ r. ⌜ (r ≡ true) ↔ PresentFrom n (self .places) ⌝ }
+    {
+        let places = self.places;
+        marks::has_strays(places, n)
     }
 }

@@ -25,8 +25,7 @@ pub fn restore(m: usize, k: usize, b: usize, map: Map, stripe: &[u8], bench: &mu
     let Judged::Good { column } = judged else {
         return Restored::Refused(judged.refusal());
     };
-    let places = map.places;
-    let gaps = marks::find_gaps(places, k + 2);
+    let gaps = map.gaps(k + 2);
     if 2 < gaps.count {
         return Restored::Refused(Refusal::Ambiguous);
     }

@@ -29,8 +29,7 @@ pub fn place_of(
         return Place::Refused(judged.refusal());
     };
     let columns = k + 2;
-    let places = map.places;
-    let gaps = marks::find_gaps(places, columns);
+    let gaps = map.gaps(columns);
     let count = gaps.count;
     if columns <= column {
         return Place::Refused(Refusal::NoSuchColumn);

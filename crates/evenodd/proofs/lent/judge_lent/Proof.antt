@@ -50,11 +50,11 @@ returns-2 c =
       column = tt;
     }
 
-add-has-strays : tie.Need-add-has-strays
-add-has-strays c = omega (arith, places-most (good (c .before .before) .shape))
+add-strays : tie.Need-add-strays
+add-strays c = omega (arith, places-most (good (c .before .before) .shape))
 
-has-strays-requires : tie.Need-has-strays-requires
-has-strays-requires c κs = places-most (good (c .before .before) .shape)
+strays-requires : tie.Need-strays-requires
+strays-requires c κs = places-most (good (c .before .before) .shape)
 
 returns-3 : tie.Need-returns-3
 returns-3 c =
@@ -64,7 +64,7 @@ returns-3 c =
     record {
       told = gives-after (stripeTests (a .m) (a .k) (a .b) (a .length)) (lentTests (a .m) (a .k) (a .b) (a .map .places) (a .held)) _
           (told-passed (stripeTests (a .m) (a .k) (a .b) (a .length)) (at .judge-stripe .result) (at .judge-stripe .ensures .told) (one .before .before .judged .given .1))
-          (gives-next (λ n. n (bench-right one)) (gives-first (c .before .has-strays .ensures .0 (c .if2 .taken))));
+          (gives-next (λ n. n (bench-right one)) (gives-first (c .before .strays .ensures .0 (c .if2 .taken))));
       column = tt;
     }
 
@@ -76,7 +76,7 @@ returns-4 c =
     record {
       told = gives-after (stripeTests (a .m) (a .k) (a .b) (a .length)) (lentTests (a .m) (a .k) (a .b) (a .map .places) (a .held)) _
           (told-passed (stripeTests (a .m) (a .k) (a .b) (a .length)) (at .judge-stripe .result) (at .judge-stripe .ensures .told) (one .before .before .judged .given .1))
-          (gives-next (λ n. n (bench-right one)) (gives-next (λ p. true≢false (sym (c .before .has-strays .ensures .1 p) ∙ c .if2 .left)) refl));
+          (gives-next (λ n. n (bench-right one)) (gives-next (λ p. true≢false (sym (c .before .strays .ensures .1 p) ∙ c .if2 .left)) refl));
       column = good (one .before) .column;
     }
 
@@ -90,7 +90,7 @@ judge-lent-spec =
     returns
     mul-if1
     returns-2
-    add-has-strays
-    has-strays-requires
+    add-strays
+    strays-requires
     returns-3
     returns-4)

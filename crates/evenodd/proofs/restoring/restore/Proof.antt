@@ -39,22 +39,22 @@ returns c =
     let a = at .before .before .before .args in
     restore-refused (a .m) (a .k) (a .b) (a .map) (now (a .stripe)) (now (a .bench)) (at .judge-lent .result) (at .judge-lent .ensures) (c .before .enum-told .given .1) (c .refusal .ensures)
 
-add-find-gaps : tie.Need-add-find-gaps
-add-find-gaps c = omega (arith, places-most (good (c .before) .numbers .shape))
+add-gaps : tie.Need-add-gaps
+add-gaps c = omega (arith, places-most (good (c .before) .numbers .shape))
 
-find-gaps-requires : tie.Need-find-gaps-requires
-find-gaps-requires c κs = places-most (good (c .before) .numbers .shape)
+gaps-requires : tie.Need-gaps-requires
+gaps-requires c κs = places-most (good (c .before) .numbers .shape)
 
 returns-2 : tie.Need-returns-2
 returns-2 c =
-    let g = c .before .before .find-gaps in
+    let g = c .before .before .gaps in
     let z = c .before .before .before .before in
     let a = z .before .before .before .before .before .before .args in
     restore-ambiguous (a .m) (a .k) (a .b) (a .map) (now (a .stripe)) (now (a .bench)) (good z) (g .result) (g .ensures) (c .if1 .taken)
 
 restore-gaps-requires : tie.Need-restore-gaps-requires
 restore-gaps-requires c κs =
-    let g = c .before .before .before .find-gaps in
+    let g = c .before .before .before .gaps in
     let z = c .before .before .before .before .before in
     let a = z .before .before .before .before .before .before .args in
     restore-gapped (a .m) (a .k) (a .b) (a .map) (now (a .stripe)) (now (a .bench)) (good z) (g .result) (g .ensures) (c .before .if1 .left)
@@ -66,7 +66,7 @@ returns-3 : tie.Need-returns-3
 returns-3 c =
     let r = c .before .before .before in
     let one = r .before .before in
-    let g = one .before .before .find-gaps in
+    let g = one .before .before .gaps in
     let z = one .before .before .before .before in
     let a = z .before .before .before .before .before .before .args in
     let after = r .restore-gaps .last .1 .1 .1 .1 .0 in
@@ -80,7 +80,7 @@ returns-4 : tie.Need-returns-4
 returns-4 c =
     let r = c .before .before .before in
     let one = r .before .before in
-    let g = one .before .before .find-gaps in
+    let g = one .before .before .gaps in
     let z = one .before .before .before .before in
     let a = z .before .before .before .before .before .before .args in
     let after = r .restore-gaps .last .1 .1 .1 .1 .0 in
@@ -96,8 +96,8 @@ restore-spec =
     enum-told
     refusal-requires
     returns
-    add-find-gaps
-    find-gaps-requires
+    add-gaps
+    gaps-requires
     returns-2
     restore-gaps-requires
     same-length

@@ -20,7 +20,7 @@ passed : (c : tie.Else2) → let z = c .before .before .before .before in let a 
 passed c =
     let one = c .before in
     let lent = good (one .before .before .before) in
-    (show-named _ _ _ _ _ _ _ lent (one .if1 .left) (one .before .find-gaps .ensures) (c .if2 .left), lent .numbers .column)
+    (show-named _ _ _ _ _ _ _ lent (one .if1 .left) (one .before .gaps .ensures) (c .if2 .left), lent .numbers .column)
 
 judge-lent-requires : tie.Need-judge-lent-requires
 judge-lent-requires c κs = tt
@@ -43,8 +43,8 @@ returns c =
 add-columns : tie.Need-add-columns
 add-columns c = omega (arith, places-most (good c .numbers .shape))
 
-find-gaps-requires : tie.Need-find-gaps-requires
-find-gaps-requires c κs = places-most (good (c .before) .numbers .shape)
+gaps-requires : tie.Need-gaps-requires
+gaps-requires c κs = places-most (good (c .before) .numbers .shape)
 
 returns-2 : tie.Need-returns-2
 returns-2 c = show-7 _ _ _ _ _ _ _ (good (c .before .before .before)) (c .if1 .taken)
@@ -52,7 +52,7 @@ returns-2 c = show-7 _ _ _ _ _ _ _ (good (c .before .before .before)) (c .if1 .t
 returns-3 : tie.Need-returns-3
 returns-3 c =
     let one = c .before in
-    show-4 _ _ _ _ _ _ _ (good (one .before .before .before)) (one .if1 .left) (one .before .find-gaps .ensures) (c .if2 .taken)
+    show-4 _ _ _ _ _ _ _ (good (one .before .before .before)) (one .if1 .left) (one .before .gaps .ensures) (c .if2 .taken)
 
 is-present-requires : tie.Need-is-present-requires
 is-present-requires c κs = tt
@@ -68,14 +68,14 @@ returns-5 c =
     let three = c .before .before in
     let two = three .before .before in
     let (p, e) = passed two in
-    show-first p e (two .before .before .find-gaps .ensures) (sym (three .before .is-present .ensures) ∙ three .if3 .left) (c .if4 .taken)
+    show-first p e (two .before .before .gaps .ensures) (sym (three .before .is-present .ensures) ∙ three .if3 .left) (c .if4 .taken)
 
 returns-6 : tie.Need-returns-6
 returns-6 c =
     let three = c .before .before in
     let two = three .before .before in
     let (p, e) = passed two in
-    show-second p e (two .before .before .find-gaps .ensures) (sym (three .before .is-present .ensures) ∙ three .if3 .left) (c .if4 .left)
+    show-second p e (two .before .before .gaps .ensures) (sym (three .before .is-present .ensures) ∙ three .if3 .left) (c .if4 .left)
 
 pub place-of-spec : {M : Type 1} → statement M
 place-of-spec =
@@ -87,7 +87,7 @@ place-of-spec =
     refusal-requires
     returns
     add-columns
-    find-gaps-requires
+    gaps-requires
     returns-2
     returns-3
     is-present-requires
