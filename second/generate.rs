@@ -37,6 +37,8 @@ const SMALL: [(usize, usize, usize); 12] = [
 ];
 /// More bytes than the drawn shapes have: long cells beside more than eight data columns, and long columns.
 const LARGE: [(usize, usize, usize); 3] = [(11, 9, 130), (17, 2, 4096), (19, 17, 257)];
+/// So many columns, and such cells, that the library sums lines in bands, more than one.
+const WIDE: (usize, usize, usize) = (37, 33, 1400);
 pub const BAD_M: [usize; 36] = [
     0, 1, 2, 4, 6, 8, 9, 15, 21, 25, 27, 33, 35, 49, 51, 57, 77, 87, 91, 93, 119, 121, 123, 125, 126, 128, 129, 131,
     137, 256, 257, 259, 65_539, (1 << 32) + 3, MAX - 1, MAX,
@@ -173,7 +175,21 @@ impl Maker {
         for (m, k, b) in LARGE {
             requests.extend(self.large(Shape { m, k, b }));
         }
+        let (m, k, b) = WIDE;
+        requests.extend(self.wide(Shape { m, k, b }));
         requests
+    }
+
+    /// A valid stripe restored with one column absent; and, with one byte of the last row wrong in D, a check, a mend
+    /// and the same restore.
+    fn wide(&mut self, shape: Shape) -> Vec<Request> {
+        let Shape { m, k, b } = shape;
+        let mut stripe = self.random.bytes(shape.stripe_length());
+        encode(shape, &mut stripe);
+        let sound = self.large_restore(shape, "data", &stripe);
+        stripe[shape.column(k + 1)][(m - 2) * b + self.random.below(b)] ^= self.random.nonzero();
+        let torn = self.large_restore(shape, "data", &stripe);
+        vec![sound, Request::Check(shape, stripe.clone()), Request::Mend(shape, stripe), torn]
     }
 
     /// An encode, a restore for each kind of absent columns, and, with one byte of the last row wrong in a data
