@@ -7,7 +7,7 @@ ghost use Rattle.parity.specs.Xor.{_⊕_};
 ghost use Rattle.parity.specs.Equations.{back};
 ghost use Rattle.parity.specs.Stripe.{lane};
 ghost use Rattle.cells.specs.Runs.{Added, Put};
-ghost use Rattle.lines.specs.Lines.{real, span, seedOf, Sized, Crosses};
+ghost use Rattle.lines.specs.Lines.{real, span, Sized, Crosses};
 ghost use Rattle.lines.specs.Places.{blank, total, Within, Listed};
 
 // The rows of a column, counted with the imaginary one, the bytes of a cell, and those of a column.
@@ -94,42 +94,6 @@ pub fn sum_part(
     ensures { λ _. ⌜ Put (now (acc .entry)) (now (acc .exit)) 0 (length (now (acc .entry))) (λ l. getD (now (seed .entry)) (j + l) 0 ⊕ span (g .m) (lane (g .m) (g .b) (now (s .entry)) (j + l)) slant i t0 t1) ⌝ }
 {
     start(acc, seed, j);
-    add_span(acc, s, g, slant, i, t0, t1, j);
-}
-
-// acc becomes the lanes from j on of what the cell of w at `at` starts from: the cell `seed`, of which an empty one is zero, or, where
-// it is not set afresh, what it holds.
-fn take_seed(acc: &mut [u8], w: &[u8], seed: &[u8], fresh: bool, g: Grid, at: usize, j: usize)
-    requires { ⌜ (0 < length (now seed) → g .b ≤ length (now seed)) × (at + g .b ≤ length (now w)) × (j + length (now acc) ≤ g .b) ⌝ }
-    ensures { λ _. ⌜ Put (now (acc .entry)) (now (acc .exit)) 0 (length (now (acc .entry))) (λ l. seedOf fresh (now (seed .entry)) (now (w .entry)) at (j + l)) ⌝ }
-{
-    if fresh {
-        start(acc, seed, j);
-    } else {
-        let b = g.b;
-        start(acc, &w[at..at + b], j);
-    }
-}
-
-// acc becomes the lanes from j on of the seed plus line i over the columns from t0 up to t1.
-pub fn gather(
-    acc: &mut [u8],
-    w: &[u8],
-    seed: &[u8],
-    fresh: bool,
-    s: &[u8],
-    g: Grid,
-    slant: usize,
-    i: usize,
-    t0: usize,
-    t1: usize,
-    at: usize,
-    j: usize,
-)
-    requires { ⌜ (0 < length (now seed) → g .b ≤ length (now seed)) × (at + g .b ≤ length (now w)) × (j + length (now acc) ≤ g .b) × Sized (g .m) (g .b) (g .column) × Crosses (g .m) (g .column) (length (now s)) slant i t0 t1 ⌝ }
-    ensures { λ _. ⌜ Put (now (acc .entry)) (now (acc .exit)) 0 (length (now (acc .entry))) (λ l. seedOf fresh (now (seed .entry)) (now (w .entry)) at (j + l) ⊕ span (g .m) (lane (g .m) (g .b) (now (s .entry)) (j + l)) slant i t0 t1) ⌝ }
-{
-    take_seed(acc, w, seed, fresh, g, at, j);
     add_span(acc, s, g, slant, i, t0, t1, j);
 }
 
