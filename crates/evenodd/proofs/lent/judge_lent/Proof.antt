@@ -51,14 +51,14 @@ returns-2 c =
     }
 
 add-strays : tie.Need-add-strays
-add-strays c = omega (arith, places-most (good (c .before .before) .shape))
+add-strays c = omega (arith, places-most (good (c .before) .shape))
 
 strays-requires : tie.Need-strays-requires
-strays-requires c κs = places-most (good (c .before .before) .shape)
+strays-requires c κs = places-most (good (c .before) .shape)
 
 returns-3 : tie.Need-returns-3
 returns-3 c =
-    let one = c .before .before .before in
+    let one = c .before .before in
     let at = one .before .before .before .before in
     let a = at .before .args in
     record {
@@ -70,7 +70,7 @@ returns-3 c =
 
 returns-4 : tie.Need-returns-4
 returns-4 c =
-    let one = c .before .before .before in
+    let one = c .before .before in
     let at = one .before .before .before .before in
     let a = at .before .args in
     record {

@@ -40,22 +40,22 @@ returns c =
     restore-refused (a .m) (a .k) (a .b) (a .map) (now (a .stripe)) (now (a .bench)) (at .judge-lent .result) (at .judge-lent .ensures) (c .before .enum-told .given .1) (c .refusal .ensures)
 
 add-gaps : tie.Need-add-gaps
-add-gaps c = omega (arith, places-most (good (c .before) .numbers .shape))
+add-gaps c = omega (arith, places-most (good c .numbers .shape))
 
 gaps-requires : tie.Need-gaps-requires
-gaps-requires c κs = places-most (good (c .before) .numbers .shape)
+gaps-requires c κs = places-most (good c .numbers .shape)
 
 returns-2 : tie.Need-returns-2
 returns-2 c =
     let g = c .before .before .gaps in
-    let z = c .before .before .before .before in
+    let z = c .before .before .before in
     let a = z .before .before .before .before .before .before .args in
     restore-ambiguous (a .m) (a .k) (a .b) (a .map) (now (a .stripe)) (now (a .bench)) (good z) (g .result) (g .ensures) (c .if1 .taken)
 
 restore-gaps-requires : tie.Need-restore-gaps-requires
 restore-gaps-requires c κs =
     let g = c .before .before .before .gaps in
-    let z = c .before .before .before .before .before in
+    let z = c .before .before .before .before in
     let a = z .before .before .before .before .before .before .args in
     restore-gapped (a .m) (a .k) (a .b) (a .map) (now (a .stripe)) (now (a .bench)) (good z) (g .result) (g .ensures) (c .before .if1 .left)
 
@@ -67,7 +67,7 @@ returns-3 c =
     let r = c .before .before .before in
     let one = r .before .before in
     let g = one .before .before .gaps in
-    let z = one .before .before .before .before in
+    let z = one .before .before .before in
     let a = z .before .before .before .before .before .before .args in
     let after = r .restore-gaps .last .1 .1 .1 .1 .0 in
     restore-contradicted (a .m) (a .k) (a .b) (a .map) (now (a .stripe)) (now (a .bench)) (good z) (g .result) (g .ensures) (one .if1 .left) (stripe z) after
@@ -81,7 +81,7 @@ returns-4 c =
     let r = c .before .before .before in
     let one = r .before .before in
     let g = one .before .before .gaps in
-    let z = one .before .before .before .before in
+    let z = one .before .before .before in
     let a = z .before .before .before .before .before .before .args in
     let after = r .restore-gaps .last .1 .1 .1 .1 .0 in
     restore-columns (a .m) (a .k) (a .b) (a .map) (now (a .stripe)) (now (a .bench)) (good z) (g .result) (g .ensures) (one .if1 .left) (stripe z) after

@@ -15,11 +15,11 @@ good : (c : tie.After-known-told) → let a = c .before .before .before .before 
 good c = let at = c .before .before .before in lent-good _ _ _ _ _ _ (at .judge-lent .result) (at .judge-lent .ensures) (c .before .judged .given .1)
 
 -- past every refusal
-passed : (c : tie.Else2) → let z = c .before .before .before .before in let a = z .before .before .before .before .before .before .args in
+passed : (c : tie.Else2) → let z = c .before .before .before in let a = z .before .before .before .before .before .before .args in
     NotRefused (a .m) (a .k) (a .b) (a .map) (now (a .stripe)) (now (a .bench)) (a .column) × (z .before .judged .given .0 .0 ≡ columnLength (a .m) (a .b))
 passed c =
     let one = c .before in
-    let lent = good (one .before .before .before) in
+    let lent = good (one .before .before) in
     (show-named _ _ _ _ _ _ _ lent (one .if1 .left) (one .before .gaps .ensures) (c .if2 .left), lent .numbers .column)
 
 judge-lent-requires : tie.Need-judge-lent-requires
@@ -44,21 +44,21 @@ add-columns : tie.Need-add-columns
 add-columns c = omega (arith, places-most (good c .numbers .shape))
 
 gaps-requires : tie.Need-gaps-requires
-gaps-requires c κs = places-most (good (c .before) .numbers .shape)
+gaps-requires c κs = places-most (good c .numbers .shape)
 
 returns-2 : tie.Need-returns-2
-returns-2 c = show-7 _ _ _ _ _ _ _ (good (c .before .before .before)) (c .if1 .taken)
+returns-2 c = show-7 _ _ _ _ _ _ _ (good (c .before .before)) (c .if1 .taken)
 
 returns-3 : tie.Need-returns-3
 returns-3 c =
     let one = c .before in
-    show-4 _ _ _ _ _ _ _ (good (one .before .before .before)) (one .if1 .left) (one .before .gaps .ensures) (c .if2 .taken)
+    show-4 _ _ _ _ _ _ _ (good (one .before .before)) (one .if1 .left) (one .before .gaps .ensures) (c .if2 .taken)
 
 is-present-requires : tie.Need-is-present-requires
 is-present-requires c κs = tt
 
-mul-t21 : tie.Need-mul-t21
-mul-t21 c = let (p, e) = passed (c .before .before) in omega (arith, start-most p e)
+mul-t20 : tie.Need-mul-t20
+mul-t20 c = let (p, e) = passed (c .before .before) in omega (arith, start-most p e)
 
 returns-4 : tie.Need-returns-4
 returns-4 c = let (p, e) = passed (c .before .before) in show-stripe p e (sym (c .before .is-present .ensures) ∙ c .if3 .taken)
@@ -91,7 +91,7 @@ place-of-spec =
     returns-2
     returns-3
     is-present-requires
-    mul-t21
+    mul-t20
     returns-4
     returns-5
     returns-6)
