@@ -1,5 +1,5 @@
 -- What check says of its two counts.
---   tells-checks   an answer that tells them is the one that check promises
+--   says-checks   an answer that tells them is the one that check promises
 use mathlib.Core.Path.{_≡_, sym, _∙_}
 use mathlib.Core.List.{List}
 use Prim.Native.Nat.{ℕ}
@@ -9,10 +9,10 @@ use Rattle.evenodd.specs.declared.checking.Checked.{Checked}
 use Rattle.evenodd.specs.declared.checking.Checked.the-variants as checked
 use Rattle.evenodd.specs.Refusals.{pass, Gives}
 use Rattle.evenodd.specs.Shapes.{stripeRules}
-use Rattle.evenodd.specs.Checks.{Checks, Tells}
+use Rattle.evenodd.specs.Checks.{Checks, Says}
 
 module _ (m k b : ℕ) (s : List ℕ) (passed : Gives (stripeRules m k b s) pass) (c : Counts) (rows : c .rows ≡ brokenRows m k b s) (diagonals : c .diagonals ≡ brokenDiagonals m k b s) where
-  pub tells-checks : (r : Checked) → Tells c r → Checks m k b s r
-  tells-checks checked.Intact t = record { told = passed; found = record { rows = sym rows ∙ t .0; diagonals = sym diagonals ∙ t .1 } }
-  tells-checks (checked.Broken x y) t = record { told = passed; found = (λ n. t .0 (rows ∙ n .rows, diagonals ∙ n .diagonals), t .1 ∙ rows, t .2 ∙ diagonals) }
-  tells-checks (checked.Refused f) t = absurd t
+  pub says-checks : (r : Checked) → Says c r → Checks m k b s r
+  says-checks checked.Intact t = record { told = passed; found = record { rows = sym rows ∙ t .0; diagonals = sym diagonals ∙ t .1 } }
+  says-checks (checked.Broken x y) t = record { told = passed; found = (λ n. t .0 (rows ∙ n .rows, diagonals ∙ n .diagonals), t .1 ∙ rows, t .2 ∙ diagonals) }
+  says-checks (checked.Refused f) t = absurd t

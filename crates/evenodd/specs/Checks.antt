@@ -1,7 +1,7 @@
 -- What check answers. It reads only.
 --   Checks        intact, by name, exactly when both counts are zero; broken, with the two counts; or refused: 1, 2
 --   rowsOf, diagonalsOf   the counts that an answer stands for
---   Tells         what an answer says of two counts
+--   Says         what an answer says of two counts
 use mathlib.Core.Path.{_≡_}
 use mathlib.Core.List.{List}
 use Prim.Native.Nat.{ℕ}
@@ -36,7 +36,7 @@ pub record Checks (m k b : ℕ) (s : List ℕ) (r : Checked) : Type 0 where
   pub told : Gives (stripeRules m k b s) (verdictOf r)
   pub found : Found m k b s r
 
-abbrev pub Tells : Counts → Checked → Type 0
-Tells c checked.Intact = (c .rows ≡ 0) × (c .diagonals ≡ 0)
-Tells c (checked.Broken rows diagonals) = ((c .rows ≡ 0) × (c .diagonals ≡ 0) → ⊥) × (rows ≡ c .rows) × (diagonals ≡ c .diagonals)
-Tells c (checked.Refused r) = ⊥
+abbrev pub Says : Counts → Checked → Type 0
+Says c checked.Intact = (c .rows ≡ 0) × (c .diagonals ≡ 0)
+Says c (checked.Broken rows diagonals) = ((c .rows ≡ 0) × (c .diagonals ≡ 0) → ⊥) × (rows ≡ c .rows) × (diagonals ≡ c .diagonals)
+Says c (checked.Refused r) = ⊥

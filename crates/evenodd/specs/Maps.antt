@@ -16,6 +16,7 @@ use lib.Dec.{eqb}
 use lib.ListN.{length, getD}
 use Rattle.parity.specs.Presence.{present, absences}
 use Rattle.marks.specs.Absent.{PresentFrom}
+use Rattle.marks.specs.InBytes as marks
 unfoldable pub use Rattle.marks.specs.Absent.{absentBelow}
 pub use Rattle.marks.specs.Absent.{NthAbsent}
 use Rattle.evenodd.specs.declared.maps.Map.{Map}
@@ -28,13 +29,11 @@ pub record New (r : Map) : Type 0 where
   pub whole : length (r .places) ≡ 129
   pub absent : (t : ℕ) → present (r .places) t ≡ false
 
-pub record OfBytes (bytes : List ℕ) (r : Map) : Type 0 where
-  pub whole : length (r .places) ≡ 129
-  pub at : (t : ℕ) → t < 129 → present (r .places) t ≡ eqb (getD bytes t 0) 1
+abbrev pub OfBytes : List ℕ → Map → Type 0
+OfBytes bytes r = marks.OfBytes bytes (r .places)
 
-pub record AsBytes (map : Map) (bytes : List ℕ) : Type 0 where
-  pub whole : length bytes ≡ 129
-  pub at : (t : ℕ) → t < 129 → getD bytes t 0 ≡ cond (present (map .places) t) 1 0
+abbrev pub AsBytes : Map → List ℕ → Type 0
+AsBytes map bytes = marks.AsBytes (map .places) bytes
 
 pub record Marks (state : Bool) (before : Map) (place : ℕ) (after : Map) : Type 0 where
   pub whole : length (after .places) ≡ 129

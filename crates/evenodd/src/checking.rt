@@ -4,7 +4,7 @@ use crate::shapes::Judged;
 use crate::shapes::Refusal;
 use counts::Counts;
 use lines::Grid;
-ghost use Rattle.evenodd.specs.Checks.{Checks, Tells};
+ghost use Rattle.evenodd.specs.Checks.{Checks, Says};
 
 // What check answers: the stripe is intact, or so many rows and diagonals break.
 pub enum Checked {
@@ -15,7 +15,7 @@ pub enum Checked {
 
 // What the two counts say.
 fn told(counts: Counts) -> Checked
-    ensures { λ r. ⌜ Tells counts r ⌝ }
+    ensures { λ r. ⌜ Says counts r ⌝ }
 {
     let rows = counts.rows;
     let diagonals = counts.diagonals;

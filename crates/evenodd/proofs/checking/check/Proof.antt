@@ -6,7 +6,7 @@ use Rattle.repair.proofs.Asked.{sized}
 use Rattle.evenodd.specs.Tests.{stripeTests}
 use Rattle.evenodd.proofs.Tests.{told-refused, Numbers, stripe-good, stripe-long}
 use Rattle.evenodd.proofs.Stripe.{stripe-passed}
-use Rattle.evenodd.proofs.Told.{tells-checks}
+use Rattle.evenodd.proofs.Told.{says-checks}
 use Rattle.evenodd.proofs.checking.check.Statement.{statement}
 use Rattle.evenodd.proofs.checking.check.Tie as tie
 
@@ -43,7 +43,7 @@ returns-2 c =
     let a = c .before .before .before .before .before .before .before .args in
     let n = good (c .before .before) in
     let r = c .before .count-broken .ensures in
-    tells-checks (a .m) (a .k) (a .b) (now (a .stripe)) (stripe-passed (a .m) (a .k) (a .b) (now (a .stripe)) (n .shape) (n .stripe)) (c .before .count-broken .result) (r .0) (r .1) (c .told .result) (c .told .ensures)
+    says-checks (a .m) (a .k) (a .b) (now (a .stripe)) (stripe-passed (a .m) (a .k) (a .b) (now (a .stripe)) (n .shape) (n .stripe)) (c .before .count-broken .result) (r .0) (r .1) (c .told .result) (c .told .ensures)
 
 pub check-spec : {M : Type 1} → statement M
 check-spec =
