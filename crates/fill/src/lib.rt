@@ -374,8 +374,33 @@ fn fill_rows(
     }
 }
 
-// Of the `rows` cells from `at` on each cell r gets line r + shift modulo m, over the columns from t0 up to t1, added: in groups of eight
-// columns, so that few streams are read at once.
+// Of the `rows` cells from `at` on each cell r gets line r + shift modulo m, over the columns from t0 up to t1 but u and v, added: in
+// groups of eight columns, so that few streams are read at once.
+pub fn fill_but(
+    w: &mut [u8],
+    at: usize,
+    s: &[u8],
+    g: Grid,
+    slant: usize,
+    shift: usize,
+    rows: usize,
+    t0: usize,
+    t1: usize,
+    u: usize,
+    v: usize,
+)
+    requires { ⌜ (at + rows * g .b ≤ length (now w)) × (rows < g .m) × (shift < g .m) × Sized (g .m) (g .b) (g .column) × Crosses (g .m) (g .column) (length (now s)) slant 0 t0 t1 ⌝ }
+    ensures { λ _. ⌜ Lined rows (g .b) at (now (w .entry)) (now (w .exit)) (λ r l. getD (now (w .entry)) (at + (r * g .b + l)) 0 ⊕ span (g .m) (blank u v (lane (g .m) (g .b) (now (s .entry)) l)) slant ((r + shift) % g .m) t0 t1) ⌝ }
+{
+    let mut t = t0;
+    while t < t1 {
+        let e = lines::group_but(t, t1, u, v);
+        fill_rows(w, at, s, g, slant, shift, rows, t, e, u, v);
+        t = e;
+    }
+}
+
+// The same over all columns from t0 up to t1. Column 129, which no stripe has, stands for no column left out.
 pub fn fill_lines(
     w: &mut [u8],
     at: usize,
@@ -390,12 +415,7 @@ pub fn fill_lines(
     requires { ⌜ (at + rows * g .b ≤ length (now w)) × (rows < g .m) × (shift < g .m) × Sized (g .m) (g .b) (g .column) × Crosses (g .m) (g .column) (length (now s)) slant 0 t0 t1 ⌝ }
     ensures { λ _. ⌜ Lined rows (g .b) at (now (w .entry)) (now (w .exit)) (λ r l. getD (now (w .entry)) (at + (r * g .b + l)) 0 ⊕ span (g .m) (lane (g .m) (g .b) (now (s .entry)) l) slant ((r + shift) % g .m) t0 t1) ⌝ }
 {
-    let mut t = t0;
-    while t < t1 {
-        let e = lines::group_but(t, t1, 129, 129);
-        fill_rows(w, at, s, g, slant, shift, rows, t, e, 129, 129);
-        t = e;
-    }
+    fill_but(w, at, s, g, slant, shift, rows, t0, t1, 129, 129);
 }
 
 // Each row r of the first of two columns gets row r added, and each row r of the second diagonal r + shift modulo m, both over the columns

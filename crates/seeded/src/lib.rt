@@ -43,7 +43,7 @@ fn set_by_cells(
 }
 
 // Each of the `rows` cells of b bytes from `at` on becomes the cell seed, of which an empty one is zero.
-fn seed_rows(w: &mut [u8], at: usize, seed: &[u8], rows: usize, b: usize)
+pub fn seed_rows(w: &mut [u8], at: usize, seed: &[u8], rows: usize, b: usize)
     requires { ⌜ (0 < length (now seed) → b ≤ length (now seed)) × (at + rows * b ≤ length (now w)) ⌝ }
     ensures { λ _. ⌜ Lined rows b at (now (w .entry)) (now (w .exit)) (λ r l. getD (now (seed .entry)) l 0) ⌝ }
 {
