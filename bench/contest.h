@@ -28,6 +28,18 @@ struct rival {
     work *run[OPS]; /* null where the contestant has no such operation */
 };
 
+/* own.c: the library and the code of plain.c and registers.c as contestants, and the shapes that are measured. `shape_of` also makes
+   the presence maps for the shape. `own_check` takes a slot of random bytes and writes the valid stripe of its data columns, by
+   plain.c, to `good`; it compares what the contestants compute with that, and gives the name of one that is wrong, or null. */
+enum { SHAPES = 15 };
+extern const size_t shapes[SHAPES][3];
+extern const char *const op_name[OPS];
+struct shape shape_of(const size_t *s);
+enum { OURS, PLAIN, REGISTERS, OWNS };
+extern struct rival owns[OWNS];
+extern uint8_t refused; /* not 0 once the library has refused a call */
+const char *own_check(const struct shape *, uint8_t *slot, uint8_t *good);
+
 /* rivals.c: codes of others. `rivals_prepare` makes their tables for a shape and clears the operations that they lack there;
    `rivals_check` compares what they compute with `stripe`, encoded by plain.c, and gives the name of one that is wrong, or null. */
 enum { PQ_SSE, PQ, RS_SSE, RS, EVENODD, BLAUM_ROTH, OTHERS };

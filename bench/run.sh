@@ -1,5 +1,7 @@
 #!/bin/sh
 # Builds the benchmark and prints its table, of all shapes or of those named: run.sh [m,k,b ...]
+# On x86-64 it measures the shipped object. On another processor that is not possible, for the time would be the emulator's: there it
+# measures a native recompilation of the same module, and counts the x86-64 instructions of the shipped object.
 # BENCH_ROOT names the repository if it is not the folder above this one; OARWILLOW_OBJECT an object or archive to link instead.
 set -eu
 here=$(cd "$(dirname "$0")" && pwd)
@@ -17,19 +19,19 @@ if [ -n "$missing" ]; then
     apt-get install -y $missing >/dev/null
 fi
 
+machine=$(uname -m)
 kit=$(dirname "$(dirname "$(rt doc)")")
-clang=$(find "$kit" -path "*$(uname -m)/toolchain/bin/clang" | head -n 1)
-[ -x "$clang" ] || { echo "run.sh: no clang for $(uname -m) in the kit" >&2; exit 2; }
+clang=$kit/on/$machine/toolchain/bin/clang
+[ -x "$clang" ] || { echo "run.sh: no clang for $machine in the kit" >&2; exit 2; }
 
 archive=$root/target/staticlib/liboarwillow.a
 if [ -n "${OARWILLOW_OBJECT:-}" ]; then
     library=$OARWILLOW_OBJECT
     label="$OARWILLOW_OBJECT, given by hand (not the shipped object)"
-elif [ "$(uname -m)" != x86_64 ]; then
-    echo "liboarwillow.a is x86-64 code and this machine is $(uname -m): its time here would be the emulator's, and is not measured."
-    echo "Native recompilation of the same module: not measured here, unless OARWILLOW_OBJECT names such an object."
-    echo "x86-64 instructions per call: not measured here."
-    exit 0
+elif [ "$machine" != x86_64 ]; then
+    library=$out/native.o
+    "$here/recompile.sh" "$machine" "$library"
+    label="native recompilation of the same module, not the shipped object"
 else
     (cd "$root" && rt staticlib oarwillow >"$out/staticlib.log") || { cat "$out/staticlib.log" >&2; exit 1; }
     library=$archive
@@ -38,15 +40,17 @@ fi
 
 jerasure=$(dirname "$(dpkg -L libjerasure-dev | grep '/liberation.h$')")
 objects=
-for file in "$here/contest.c" "$here/rivals.c" "$here/plain.c" "$here/registers.c"; do
-    object=$out/$(basename "$file" .c).o
-    "$clang" -O3 -Wall -Wextra -isystem "$(cc -print-file-name=include)" -isystem "$jerasure" -I "$root/include" -c "$file" -o "$object"
+for file in contest own rivals plain registers; do
+    object=$out/$file.o
+    "$clang" --target="$machine-unknown-linux-gnu" -O3 -Wall -Wextra -isystem "$(cc -print-file-name=include)" -isystem "$jerasure" \
+        -I "$root/include" -c "$here/$file.c" -o "$object"
     objects="$objects $object"
 done
 # shellcheck disable=SC2086
 cc $objects "$library" -lisal -lJerasure -lgf_complete -o "$out/contest"
 
 echo "library:  $label"
-echo "compiler: $("$clang" --version | head -n 1), -O3, $(uname -m) baseline"
-echo "machine:  $(sed -n 's/^model name[^:]*: //p' /proc/cpuinfo | head -n 1)"
-exec taskset -c "${BENCH_CPU:-0}" "$out/contest" "$@"
+echo "compiler: $("$clang" --version | head -n 1), -O3, $machine baseline"
+echo "machine:  $(lscpu | sed -n 's/^Model name: *//p' | head -n 1)"
+taskset -c "${BENCH_CPU:-0}" "$out/contest" "$@"
+[ "$machine" = x86_64 ] || "$here/instructions.sh" "$@"

@@ -1,0 +1,105 @@
+/* The contestants of this side: the library, plain.c and registers.c; the shapes, and the check of their bytes. */
+#include "contest.h"
+#include <string.h>
+#include "oarwillow.h"
+
+const size_t shapes[SHAPES][3] = {
+    {11, 10, 4096}, {17, 17, 4096}, {5, 5, 512},  {11, 10, 1000}, {7, 5, 100},   {13, 12, 64},  {11, 10, 16},    {61, 60, 4096},
+    {127, 127, 512}, {11, 10, 1},   {5, 5, 4096}, {11, 10, 512},  {17, 17, 512}, {61, 60, 512}, {127, 127, 4096},
+};
+const char *const op_name[OPS] = {"encode", "check", "restore1", "restore2", "mend"};
+
+uint8_t refused;
+static uint8_t one_lost[129], two_lost[129];
+static size_t got[3];
+static size_t length(const struct shape *p) { return (p->k + 2) * p->col; }
+static void our_encode(const struct shape *p, uint8_t *slot) { refused |= oarwillow_encode(p->m, p->k, p->b, slot, length(p)); }
+static void our_check(const struct shape *p, uint8_t *slot) {
+    refused |= oarwillow_check(p->m, p->k, p->b, slot, length(p), &got[0], &got[1]);
+}
+static void our_restore(const struct shape *p, uint8_t *slot, const uint8_t *places) {
+    refused |= oarwillow_restore(p->m, p->k, p->b, places, slot, length(p), slot + length(p), 2 * p->col, &got[0], &got[1], &got[2]);
+}
+static void our_one(const struct shape *p, uint8_t *slot) { our_restore(p, slot, one_lost); }
+static void our_two(const struct shape *p, uint8_t *slot) { our_restore(p, slot, two_lost); }
+/* The column is made wrong, one byte in every cell, within the time measured: the first byte, in the next cell the second, ... */
+static void our_mend(const struct shape *p, uint8_t *slot) {
+    for (size_t i = 0; i < p->m - 1; i++) slot[p->w * p->col + i * p->b + i % p->b] ^= 0x5a;
+    refused |= oarwillow_mend(p->m, p->k, p->b, slot, length(p), &got[0]);
+}
+static void c_encode(const struct shape *p, uint8_t *slot) { plain_encode(p->m, p->k, p->b, slot); }
+static void c_check(const struct shape *p, uint8_t *slot) { plain_check(p->m, p->k, p->b, slot, &got[0], &got[1]); }
+static void c_two(const struct shape *p, uint8_t *slot) { plain_restore(p->m, p->k, p->b, p->u, p->v, slot, slot + length(p)); }
+static void r_encode(const struct shape *p, uint8_t *slot) { registers_encode(p->m, p->k, p->b, slot); }
+static void r_check(const struct shape *p, uint8_t *slot) { registers_check(p->m, p->k, p->b, slot, &got[0], &got[1]); }
+
+struct rival owns[OWNS] = {
+    [OURS] = {"ours", PACKED, {our_encode, our_check, our_one, our_two, our_mend}},
+    [PLAIN] = {"plain", PACKED, {c_encode, c_check, 0, c_two, 0}},
+    [REGISTERS] = {"registers", PACKED, {r_encode, r_check, 0, 0, 0}},
+};
+
+struct shape shape_of(const size_t *s) {
+    struct shape p = {s[0], s[1], s[2], (s[0] - 1) * s[2], 0, 1, s[1] - 2, s[1] / 2};
+    p.pitch = (p.col + 63) / 64 * 64;
+    for (size_t t = 0; t < 129; t++) {
+        one_lost[t] = t < p.k + 2 && t != p.w;
+        two_lost[t] = t < p.k + 2 && t != p.u && t != p.v;
+    }
+    return p;
+}
+
+/* Two stripes of the code's paper: plain.c, which the others are compared with, is right on them. */
+static int plain_is_right(void) {
+    static const uint8_t a[] = {1, 2, 4, 8, 0x10, 0x20, 0x15, 0x2a, 0x39, 0x1e};
+    static const uint8_t b[] = {0, 0, 0, 0, 0, 0, 0, 1, 1, 0, 1, 1, 0, 0, 0, 1, 1, 1, 1, 0, 0, 1, 0, 1, 1, 1, 0, 1};
+    uint8_t s[28] = {0}, bench[8];
+    memcpy(s, a, 6), plain_encode(3, 3, 1, s);
+    if (memcmp(s, a, sizeof a)) return 0;
+    memcpy(s, b, 20), plain_encode(5, 5, 1, s);
+    plain_restore(5, 5, 1, 0, 2, s, bench);
+    return !memcmp(s, b, sizeof b) && !memcmp(bench, b, 4) && !memcmp(bench + 4, b + 8, 4);
+}
+
+const char *own_check(const struct shape *p, uint8_t *slot, uint8_t *good) {
+    size_t n = length(p), rows, diagonals;
+    uint8_t *bench = slot + n;
+    if (!plain_is_right()) return owns[PLAIN].name;
+    plain_encode(p->m, p->k, p->b, slot);
+    memcpy(good, slot, n);
+    for (int r = OURS; r <= REGISTERS; r++) {
+        work **run = owns[r].run;
+        memset(slot + p->k * p->col, 0x55, 2 * p->col);
+        run[ENCODE](p, slot);
+        if (memcmp(slot, good, n)) return owns[r].name;
+        for (size_t c = 0; c <= p->k + 2; c++) { /* a wrong byte in each column, last in none */
+            size_t at = c * p->col + c * 7919 % p->col;
+            if (c < p->k + 2) slot[at] ^= 0x11;
+            plain_check(p->m, p->k, p->b, slot, &rows, &diagonals);
+            run[CHECK](p, slot);
+            if (rows != got[0] || diagonals != got[1] || (c == p->k + 2 && rows + diagonals)) return owns[r].name;
+            if (c < p->k + 2) slot[at] ^= 0x11;
+            if (n > 1 << 20 && c < p->k) c = p->k - 1; /* large stripes: few columns */
+        }
+        if (run[ONE]) {
+            memset(slot + p->w * p->col, 0x55, p->col), memset(bench, 0x55, 2 * p->col);
+            run[ONE](p, slot);
+            if (memcmp(bench, good + p->w * p->col, p->col) || got[0] != 1 || got[1] != p->w || got[2] != 129) return "restore of one";
+            memcpy(slot, good, n);
+        }
+        if (run[TWO]) {
+            memset(slot + p->u * p->col, 0x55, p->col), memset(slot + p->v * p->col, 0x55, p->col), memset(bench, 0x55, 2 * p->col);
+            got[0] = 2, got[1] = p->u, got[2] = p->v;
+            run[TWO](p, slot);
+            if (memcmp(bench, good + p->u * p->col, p->col) || memcmp(bench + p->col, good + p->v * p->col, p->col)) return owns[r].name;
+            if (got[0] != 2 || got[1] != p->u || got[2] != p->v) return owns[r].name;
+            memcpy(slot, good, n);
+        }
+        if (run[MEND]) {
+            run[MEND](p, slot);
+            if (memcmp(slot, good, n) || got[0] != p->w) return "mend";
+        }
+        if (refused) return "an answer";
+    }
+    return 0;
+}
