@@ -29,7 +29,8 @@ use Rattle.fill.proofs.Sweeps.{BothSwept}
 use Rattle.walk.specs.Walk.{Column, Parted, Walked}
 use Rattle.columns.specs.Columns.{Ready, OneRestored, TwoRestored}
 use Rattle.columns.specs.Sums.{around, Mixes}
-use Rattle.columns.proofs.Rooms.{no-seed, whole-line, first-line, one-row-set}
+use Rattle.lines.proofs.Whole.{no-seed, whole-line}
+use Rattle.columns.proofs.Rooms.{first-line, one-row-set}
 use Rattle.columns.proofs.Bench.{bench-now, first-set, second-set, first-added, halves-added, TurnedIn, turned-added, one-restored, two-restored}
 use Rattle.columns.proofs.Lanes.{around-none, by-rows, d-by-diagonals, S-there, by-diagonals, h-with, S-with, d-with, total-S, mixed-rows, mixed-diagonals}
 

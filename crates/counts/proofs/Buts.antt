@@ -4,10 +4,11 @@
 --   window-inner, window-last  a window before the last data column, and one that reaches it
 --   window-none, window-join   no columns, and a window after others
 --   window-line                all columns
+--   whole-…                    a line as it is summed from whole columns: a row, a diagonal, and both where a data column is left out
 --   but-H, but-D               what `lineBut` is for column H and for column D
 --   rest-H, rest-D             what line i differs by from line m - 1: what diagonal i and row i break by
 use mathlib.Core.Path.{_≡_, sym, ap, ap₂, _∙_}
-use Prim.Native.Nat.{ℕ, _+_, _-_, _≤_, _<_}
+use Prim.Native.Nat.{ℕ, _+_, _-_, _%_, _≤_, _<_}
 use native.Mathlib.Nat.{le-refl}
 use native.Mathlib.Omega.{arith}
 use borrow.Author.Tests.{lt-ltb, le-ltb}
@@ -22,6 +23,7 @@ use Rattle.lines.proofs.Lines.{real-out, span-none, span-join, span-line}
 use Rattle.lines.proofs.Valid.{line-more, back-row}
 use Rattle.lines.proofs.Amounts.{row-line, diagonal-lines}
 use Rattle.lines.proofs.Places.{blank-span}
+use Rattle.lines.proofs.Whole.{whole-line, turned-by}
 use Rattle.counts.specs.But.{endsBut, partBut, windowBut, lineBut}
 
 module _ (m k : ℕ) (a : Lane) (u d : ℕ) where
@@ -96,6 +98,30 @@ module _ (m k : ℕ) (a : Lane) (u d : ℕ) where
   pub window-line : windowBut m k a u d 0 k ≡ lineBut m k a u d
   unfolding lineBut
   window-line = sym (window-last 0 k (le-refl k))
+
+-- a line as it is summed from whole columns
+module _ (m k : ℕ) (a : Lane) (u r : ℕ) where
+  swap : (p q x y : ℕ) → p ⊕ q ⊕ (x ⊕ y) ≡ q ⊕ y ⊕ (p ⊕ x)
+  swap p q x y = simp xor
+
+  pub whole-row : k < u → r < m → span m (blank u u a) 0 ((r + 0) % m) 0 k ⊕ real m a ((r + 0) % m) k ≡ lineBut m k a u r
+  unfolding lineBut
+  whole-row h l =
+      ap (λ (i : ℕ). span m (blank u u a) 0 i 0 k ⊕ real m a i k) (whole-line l) ∙ ⊕-comm (span m (blank u u a) 0 r 0 k) (real m a r k)
+      ∙ ap₂ _⊕_ (ends-row m k a u r h) (part-row m k a u r 0 k h)
+
+  pub whole-diagonal : u ≤ k → k ≤ u → span m (blank u u a) 1 r 0 k ⊕ real m a r (k + 1) ≡ lineBut m k a u r
+  unfolding lineBut
+  whole-diagonal h l =
+      ⊕-comm (span m (blank u u a) 1 r 0 k) (real m a r (k + 1)) ∙ ap₂ _⊕_ (ends-diagonal m k a u r h l) (part-diagonal m k a u r 0 k h l)
+
+  pub whole-data : u < k
+      → span m (blank u u a) 1 r 0 k ⊕ real m a r (k + 1) ⊕ (span m (blank u u a) 0 ((r + back m 0 u) % m) 0 k ⊕ real m a ((r + back m 0 u) % m) k) ≡ lineBut m k a u r
+  unfolding lineBut
+  whole-data h =
+      ap (λ (i : ℕ). span m (blank u u a) 1 r 0 k ⊕ real m a r (k + 1) ⊕ (span m (blank u u a) 0 i 0 k ⊕ real m a i k)) (turned-by m r u)
+      ∙ swap (span m (blank u u a) 1 r 0 k) (real m a r (k + 1)) (span m (blank u u a) 0 (back m r u) 0 k) (real m a (back m r u) k)
+      ∙ ap₂ _⊕_ (ends-data m k a u r h) (part-data m k a u r 0 k h)
 
 module _ (m k : ℕ) (big : 1 < m) (few : k ≤ m) (a : Lane) where
   -- a line over the data columns, where none of them is left out

@@ -7,3 +7,4 @@ pub mod Cells
 pub mod Seeds
 pub mod Valid
 pub mod Amounts
+pub mod Whole

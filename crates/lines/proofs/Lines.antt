@@ -6,7 +6,8 @@
 --   span-none, span-more, span-join, span-line   a span of no columns, of one column more, of the columns of two, and from column 0 on
 --   line-but                 a line is what is left of it without column u, and the byte in column u
 --   column-is, column-most, cell-room   a cell lies within its column, and a column is not long
---   crosses-line, crosses-columns, crosses-own   another line, fewer columns, and a stripe that ends with them can be followed too
+--   crosses-line, crosses-columns, crosses-own, crosses-length   another line, fewer columns, a stripe that ends with them, and one as
+--                            long can be followed too
 --   slant-in, slant-next, row-next     what a slant adds up to, column by column
 use mathlib.Core.Path.{_≡_, sym, ap, _∙_}
 use mathlib.Core.List.{List}
@@ -150,3 +151,6 @@ crosses-own {c = c} {y = y} z = record {
   most = z .most;
   columns = le-refl (y * c);
 }
+
+pub crosses-length : {m c n n′ e i x y : ℕ} → n′ ≡ n → Crosses m c n e i x y → Crosses m c n′ e i x y
+crosses-length q z = record { slant = z .slant; inside = z .inside; order = z .order; within = z .within; most = z .most; columns = omega (arith, z .columns) }

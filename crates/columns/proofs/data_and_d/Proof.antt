@@ -1,6 +1,7 @@
 -- `columns::data_and_d` meets its contract: column u from the rows, and D from the diagonals once column u is known.
 use denote.Ref.{now}
-use Rattle.columns.proofs.Rooms.{diagonal-crosses, half-room}
+use Rattle.lines.proofs.Whole.{diagonal-crosses}
+use Rattle.columns.proofs.Rooms.{half-room}
 use Rattle.columns.proofs.Steps.{data-d}
 use borrow.Author.Needs.{needs}
 use native.Mathlib.Omega.{arith}

@@ -2,7 +2,8 @@
 use Prim.Native.Nat.{_+_, _-_}
 use native.Mathlib.Nat.{mod-lt}
 use denote.Ref.{now}
-use Rattle.columns.proofs.Rooms.{row-crosses, half-room, one-row-room, seed-none}
+use Rattle.lines.proofs.Whole.{row-crosses, seed-none}
+use Rattle.columns.proofs.Rooms.{half-room, one-row-room}
 use Rattle.columns.proofs.Steps.{data-h}
 use borrow.Author.Needs.{needs}
 use native.Mathlib.Omega.{arith}

@@ -1,6 +1,7 @@
 -- `columns::mix` meets its contract: what is left of the rows and of the diagonals, when all columns but two are taken out, is those two.
 use denote.Ref.{now}
-use Rattle.columns.proofs.Rooms.{row-crosses, diagonal-crosses, half-room, seed-none}
+use Rattle.lines.proofs.Whole.{row-crosses, diagonal-crosses, seed-none}
+use Rattle.columns.proofs.Rooms.{half-room}
 use Rattle.columns.proofs.Steps.{mixes}
 use borrow.Author.Needs.{needs}
 use native.Mathlib.Omega.{arith}

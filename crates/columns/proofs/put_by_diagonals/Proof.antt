@@ -1,6 +1,7 @@
 -- `columns::put_by_diagonals` meets its contract: S first, and each row from it.
 use denote.Ref.{now}
-use Rattle.columns.proofs.Rooms.{diagonal-crosses, half-room}
+use Rattle.lines.proofs.Whole.{diagonal-crosses}
+use Rattle.columns.proofs.Rooms.{half-room}
 use Rattle.columns.proofs.Steps.{d-set}
 use borrow.Author.Needs.{needs}
 use native.Mathlib.Omega.{arith}

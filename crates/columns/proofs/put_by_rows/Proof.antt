@@ -1,6 +1,7 @@
 -- `columns::put_by_rows` meets its contract: each row is set over the other columns, shifted by nothing and from no seed.
 use denote.Ref.{now}
-use Rattle.columns.proofs.Rooms.{row-crosses, half-room, seed-none}
+use Rattle.lines.proofs.Whole.{row-crosses, seed-none}
+use Rattle.columns.proofs.Rooms.{half-room}
 use Rattle.columns.proofs.Steps.{rows-set}
 use borrow.Author.Needs.{needs}
 use native.Mathlib.Omega.{arith}

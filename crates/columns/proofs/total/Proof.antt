@@ -9,7 +9,7 @@ use Rattle.cells.proofs.Parts.{part, part-size}
 use Rattle.cells.proofs.Puts.{put-same, put-count, put-again}
 use Rattle.lines.specs.Lines.{span}
 use Rattle.lines.proofs.Seeds.{seed-fresh, seed-kept}
-use Rattle.columns.proofs.Rooms.{seed-none, no-seed}
+use Rattle.lines.proofs.Whole.{seed-none, no-seed}
 use Rattle.columns.proofs.Totals.{row-sized, row-crosses-all, column-sum, both-columns}
 use borrow.Author.Needs.{needs}
 use native.Mathlib.Omega.{arith}

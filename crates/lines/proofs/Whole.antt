@@ -1,0 +1,60 @@
+-- Whole columns of a whole stripe: what the loops over them ask for, and the lines that they start from.
+--   row-crosses, diagonal-crosses   rows go through all columns of a stripe, diagonals through the data columns
+--   column-room, short-column       a column has room for its m - 1 cells; a column of short cells is not long
+--   seed-none, no-seed              an empty seed is long enough, and zero
+--   whole-line, turned-by           row r, shifted by nothing, is row r; shifted by as much as u rows up, it is the row u rows up
+use mathlib.Core.Path.{_≡_, ap, _∙_}
+use mathlib.Core.List.{List}
+use Prim.Native.Nat.{ℕ, _+_, _*_, _-_, _%_, _≤_, _<_}
+use native.Mathlib.Nat.{mul-le-mul, mul-le-mul-right, mod-eq-of-lt, add-mod-mod}
+use native.Mathlib.Omega.{arith}
+use lib.ListN.{length, getD, length-take, List·getD-eq-default}
+use Rattle.parity.specs.Xor.{_⊕_}
+use Rattle.parity.specs.Equations.{back}
+use Rattle.parity.proofs.Xor.{zero-⊕}
+use Rattle.cells.proofs.Parts.{part}
+use Rattle.lines.specs.Lines.{Sized, Crosses}
+use Rattle.lines.proofs.Lines.{column-is}
+
+module _ {m k b c p : ℕ} (z : Sized m b c) (few : k ≤ m) (whole : p ≡ (k + 2) * c) where
+  columns : {y : ℕ} → y ≤ k + 2 → y * c ≤ p
+  columns h = rw whole (mul-le-mul-right c h)
+
+  pub row-crosses : {i x y : ℕ} → i < m → x ≤ y → y ≤ k + 2 → Crosses m c p 0 i x y
+  row-crosses h order most = record {
+    slant = omega arith;
+    inside = h;
+    order = order;
+    within = omega arith;
+    most = omega arith;
+    columns = columns most;
+  }
+
+  pub diagonal-crosses : {i x y : ℕ} → i < m → x ≤ y → y ≤ k → Crosses m c p 1 i x y
+  diagonal-crosses h order most = record {
+    slant = omega arith;
+    inside = h;
+    order = order;
+    within = omega arith;
+    most = omega arith;
+    columns = columns (omega arith);
+  }
+
+pub column-room : {m b c n : ℕ} → Sized m b c → n ≡ c → 0 + (m - 1) * b ≤ n
+column-room {m} {b} {c} z h = omega (arith, column-is m b c z)
+
+pub short-column : {m b c : ℕ} → Sized m b c → b < 128 → c ≤ 16384
+short-column {m} {b} {c} z h = let q : (m - 1) * b ≤ 126 * 127 = mul-le-mul {n₂ = 126} {m₂ = 127} (omega (arith, z .few)) (omega arith) in omega (arith, column-is m b c z)
+
+pub seed-none : (s : List ℕ) (b : ℕ) → 0 < length (part s 0 0) → b ≤ length (part s 0 0)
+seed-none s b h = absurd (omega (arith, length-take 0 s))
+
+pub no-seed : (s : List ℕ) (l : ℕ) {x y : ℕ} → x ≡ y → getD (part s 0 0) l 0 ⊕ x ≡ y
+no-seed s l {x} e = ap (λ (z : ℕ). z ⊕ x) (List·getD-eq-default (part s 0 0) 0 {n = l} (simp length-take (omega arith))) ∙ zero-⊕ x ∙ e
+
+pub whole-line : {m r : ℕ} → r < m → (r + 0) % m ≡ r
+whole-line {m} {r} h = let e : r + 0 ≡ r = omega arith in ap (λ (x : ℕ). x % m) e ∙ mod-eq-of-lt h
+
+pub turned-by : (m r u : ℕ) → (r + back m 0 u) % m ≡ back m r u
+unfolding back
+turned-by m r u = let e : 0 + (m - u) ≡ m - u = omega arith in add-mod-mod r (0 + (m - u)) m ∙ ap (λ (x : ℕ). (r + x) % m) e
