@@ -33,7 +33,7 @@ fn first_set(x: &[u8]) -> usize
 }
 
 // The same, of bytes most of which are zero: nothing is looked for where all are.
-fn find_set(x: &[u8]) -> usize
+pub fn find_set(x: &[u8]) -> usize
     ensures { λ r. ⌜ First r (length (now (x .entry))) (λ l. getD (now (x .entry)) l 0) ⌝ }
 {
     if cells::any(x) == 0 {
@@ -156,7 +156,7 @@ fn find_turn(h: &[u8], d: &[u8], m: usize, k: usize) -> Suspect
 }
 
 // The column that can be the wrong one of a lane whose rows break by h and whose diagonals break by d.
-fn find_column(h: &[u8], d: &[u8], m: usize, k: usize) -> Suspect
+pub fn find_column(h: &[u8], d: &[u8], m: usize, k: usize) -> Suspect
     requires { ⌜ (length (now h) ≡ m) × (length (now d) ≡ m - 1) × (getD (now h) (m - 1) 0 ≡ 0) × (k ≤ m) × (m ≤ 127) ⌝ }
     ensures { λ r. ⌜ Blames m k (λ i. getD (now (h .entry)) i 0) (λ i. getD (now (d .entry)) i 0) r ⌝ }
 {
@@ -192,7 +192,7 @@ fn judge_lane(sum: &[u8], s: &[u8], g: Grid, k: usize, l: usize) -> Suspect
 }
 
 // The column that can be the wrong one. sum and cell are room for cells.
-fn locate_in(sum: &mut [u8], cell: &mut [u8], s: &[u8], g: Grid, k: usize) -> Suspect
+fn find_suspect_in(sum: &mut [u8], cell: &mut [u8], s: &[u8], g: Grid, k: usize) -> Suspect
     requires { ⌜ (length (now sum) ≡ g .b) × (length (now cell) ≡ g .b) × Sized (g .m) (g .b) (g .column) × (k ≤ g .m) × (g .m % 2 ≡ 1) × Prime (g .m) × (length (now s) ≡ (k + 2) * g .column) ⌝ }
     ensures { λ r. ⌜ Suspects (g .m) k (g .b) (now (s .entry)) r ⌝ }
 {
@@ -205,15 +205,16 @@ fn locate_in(sum: &mut [u8], cell: &mut [u8], s: &[u8], g: Grid, k: usize) -> Su
     Suspect::Nothing
 }
 
-// Which column of the stripe can be the wrong one: Nothing where the stripe is valid, Nobody where no column alone can.
-pub fn locate(s: &[u8], g: Grid, k: usize) -> Suspect
+// Which column of the stripe can be the wrong one: Nothing where the stripe is valid, Nobody where no column alone can. It is judged by
+// one lane that breaks, and so holds for all of them only if the other columns fit a valid stripe.
+pub fn find_suspect(s: &[u8], g: Grid, k: usize) -> Suspect
     requires { ⌜ Sized (g .m) (g .b) (g .column) × (1 ≤ k) × (k ≤ g .m) × (g .m % 2 ≡ 1) × Prime (g .m) × (length (now s) ≡ (k + 2) * g .column) ⌝ }
     ensures { λ r. ⌜ Suspects (g .m) k (g .b) (now (s .entry)) r ⌝ }
 {
     let b = g.b;
     let mut sum = [0u8; 4096];
     let mut cell = [0u8; 4096];
-    locate_in(&mut sum[0..b], &mut cell[0..b], s, g, k)
+    find_suspect_in(&mut sum[0..b], &mut cell[0..b], s, g, k)
 }
 
 // The cell in row i of column u becomes the cell seed plus line i over the first x columns and over those from y up to z. cell is room

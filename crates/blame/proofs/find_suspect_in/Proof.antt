@@ -1,9 +1,9 @@
--- `blame::locate_in` meets its contract: sum becomes S, and a lane that breaks is judged.
+-- `blame::find_suspect_in` meets its contract: sum becomes S, and a lane that breaks is judged.
 use denote.Ref.{now}
 use Rattle.blame.proofs.Rewrites.{special}
 use borrow.Author.Needs.{needs}
-use Rattle.blame.proofs.locate_in.Statement.{statement}
-use Rattle.blame.proofs.locate_in.Tie as tie
+use Rattle.blame.proofs.find_suspect_in.Statement.{statement}
+use Rattle.blame.proofs.find_suspect_in.Tie as tie
 
 sub-fill-cell : tie.Need-sub-fill-cell
 sub-fill-cell c = search needs
@@ -50,8 +50,8 @@ same-length-4 c = search needs
 returns-2 : tie.Need-returns-2
 returns-2 c = c .before .before .before .before .broken-lane .ensures .none (c .if1 .left)
 
-pub locate-in-spec : {M : Type 1} → statement M
-locate-in-spec =
+pub find-suspect-in-spec : {M : Type 1} → statement M
+find-suspect-in-spec =
     tie.close
     (tie.spec
     sub-fill-cell
