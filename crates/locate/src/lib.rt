@@ -86,27 +86,20 @@ fn judge_lane(x: &[u8], y: &[u8], g: Grid, k: usize, l: usize) -> Suspect
     judge_picked(&mut h[0..m], &mut d[0..m - 1], x, y, g, k, l)
 }
 
-// The bytes of the cell of column u on diagonal m - 1: none in column 0, where that cell is imaginary.
-fn cell_size(b: usize, u: usize) -> usize
-    ensures { λ n. ⌜ (n ≤ b) × (u ≡ 0 → n ≡ 0) × (0 < u → n ≡ b) ⌝ }
-{
-    if u == 0 {
-        return 0;
-    }
-    b
-}
-
-// z becomes x, turned by u rows, plus in every cell that cell of x which turns to row m - 1.
+// z becomes x, turned by u rows, plus in every cell that cell of x which turns to row m - 1: for u = 0 that one is imaginary.
 fn put_turned(z: &mut [u8], x: &[u8], g: Grid, u: usize)
     requires { ⌜ (length (now z) ≡ g .column) × (length (now x) ≡ g .column) × (u < g .m) × Sized (g .m) (g .b) (g .column) ⌝ }
     ensures { λ _. ⌜ Lined (g .m - 1) (g .b) 0 (now (z .entry)) (now (z .exit)) (λ i l. rowsAt (g .m) (g .b) (now (x .entry)) l (back (g .m) (g .m - 1) u) ⊕ rowsAt (g .m) (g .b) (now (x .entry)) l (back (g .m) i u)) ⌝ }
 {
     let m = g.m;
     let b = g.b;
+    if u == 0 {
+        seeded::set_rows(z, 0, &x[0..0], x, g, 0, 0, m - 1, 0, 1);
+        return;
+    }
     let from = (m - 1 - u) * b;
-    let n = cell_size(b, u);
     let shift = lines::row_above(m, 0, u);
-    seeded::set_rows(z, 0, &x[from..from + n], x, g, 0, shift, m - 1, 0, 1);
+    seeded::set_rows(z, 0, &x[from..from + b], x, g, 0, shift, m - 1, 0, 1);
 }
 
 // Whether the diagonals' amounts y are the rows' amounts x turned by u, in every lane. z is room for a column.
