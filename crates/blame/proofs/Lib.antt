@@ -1,3 +1,2 @@
 pub mod Lanes
 pub mod Fitting
-pub mod Rewrites

@@ -1,7 +1,6 @@
--- Which column of a stripe that is not valid can be the wrong one, and its rewriting.
+-- Which column of a stripe that is not valid can be the wrong one.
 --   Suspects m k b s r      what r says of the stripe s: Nothing, that no lane breaks; Column u, that only column u can be the wrong one;
 --                           Nobody, that no column alone can
---   Rewrote m k b u s t     t is s, but that column u is the candidate for it
 -- In parts:
 --   First r n f             r is the first number below n at which f is not zero; n where there is none
 --   Odd r b n f             r is a lane below b at which not all of f r 0 to f r (n - 1) are zero; b or more where there is none
@@ -11,15 +10,13 @@
 --   Fit m k h d u           column u can be the wrong one of a lane whose rows break by h and whose diagonals break by d
 --   Blames m k h d r        what r says of such a lane: Column u, that column u can be the wrong one; Nobody, that none can
 use mathlib.Core.Path.{_≡_}
-use mathlib.Core.Logic.{_≢_}
 use mathlib.Core.Bool.{Bool, true, false}
 use mathlib.Core.List.{List}
 use Prim.Native.Nat.{ℕ, _+_, _-_, _≤_, _<_}
-use lib.ListN.{length}
 use Rattle.parity.specs.Xor.{_⊕_}
 use Rattle.parity.specs.Equations.{back, Holds}
-use Rattle.parity.specs.Stripe.{byte, lane}
-use Rattle.parity.specs.Candidate.{candidate, FitsBut}
+use Rattle.parity.specs.Stripe.{lane}
+use Rattle.parity.specs.Candidate.{FitsBut}
 use Rattle.blame.specs.declared.Suspect.{Suspect}
 use Rattle.blame.specs.declared.Suspect.the-variants.{Nothing, Column, Nobody}
 
@@ -30,11 +27,6 @@ abbrev pub Suspects : ℕ → ℕ → ℕ → List ℕ → Suspect → Type 0
 Suspects m k b s Nothing = Sound m k b s
 Suspects m k b s (Column u) = (Sound m k b s → ⊥) × (u < k + 2) × ((x : ℕ) → x < k + 2 → FitsBut m k b x s → x ≡ u)
 Suspects m k b s Nobody = (Sound m k b s → ⊥) × ((x : ℕ) → x < k + 2 → FitsBut m k b x s → ⊥)
-
-pub record Rewrote (m k b u : ℕ) (s t : List ℕ) : Type 0 where
-  pub size : length t ≡ length s
-  pub inside : (l i : ℕ) → l < b → i < m - 1 → byte m b t l i u ≡ candidate m k (lane m b s l) u i u
-  pub other : (l i y : ℕ) → l < b → i < m - 1 → y < k + 2 → y ≢ u → byte m b t l i y ≡ byte m b s l i y
 
 pub record First (r n : ℕ) (f : ℕ → ℕ) : Type 0 where
   pub within : r ≤ n

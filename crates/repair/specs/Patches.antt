@@ -12,7 +12,8 @@ use Rattle.parity.specs.Candidate.{FitsBut}
 use Rattle.lines.specs.declared.Grid.{Grid}
 use Rattle.blame.specs.declared.Suspect.{Suspect}
 use Rattle.blame.specs.declared.Suspect.the-variants.{Nothing, Column, Nobody}
-use Rattle.blame.specs.Blame.{Sound, Rewrote}
+use Rattle.blame.specs.Blame.{Sound}
+use Rattle.rewrite.specs.Rewrite.{Rewrote}
 
 pub record Blamed (g : Grid) (k : ℕ) (s : List ℕ) : Type 0 where
   pub shape : Shape (g .m) k (g .b)

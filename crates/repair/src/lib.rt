@@ -35,7 +35,7 @@ fn mend_column(g: Grid, k: usize, stripe: &mut [u8], u: usize) -> Suspect
     if !fits::fits_but(stripe, g, k, u) {
         return Suspect::Nobody;
     }
-    blame::rewrite(stripe, g, k, u);
+    rewrite::rewrite(stripe, g, k, u);
     Suspect::Column(u)
 }
 

@@ -1,6 +1,6 @@
 -- `blame::find_suspect_in` meets its contract: sum becomes S, and a lane that breaks is judged.
 use denote.Ref.{now}
-use Rattle.blame.proofs.Rewrites.{special}
+use Rattle.fill.proofs.Seeds.{special}
 use borrow.Author.Needs.{needs}
 use Rattle.blame.proofs.find_suspect_in.Statement.{statement}
 use Rattle.blame.proofs.find_suspect_in.Tie as tie

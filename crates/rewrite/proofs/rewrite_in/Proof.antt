@@ -1,11 +1,12 @@
--- `blame::rewrite_in` meets its contract: rows tell what a data column and H must hold, and the diagonals what D must.
+-- `rewrite::rewrite_in` meets its contract: rows tell what a data column and H must hold, and the diagonals what D must.
 use denote.Ref.{now}
 use Rattle.cells.proofs.Parts.{parts-end}
-use Rattle.blame.proofs.Rewrites.{special, rewrote-rows, rewrote-diagonals}
+use Rattle.fill.proofs.Seeds.{special}
+use Rattle.rewrite.proofs.Rewrites.{rewrote-rows, rewrote-diagonals}
 use borrow.Author.Needs.{needs}
 use native.Mathlib.Omega.{arith}
-use Rattle.blame.proofs.rewrite_in.Statement.{statement}
-use Rattle.blame.proofs.rewrite_in.Tie as tie
+use Rattle.rewrite.proofs.rewrite_in.Statement.{statement}
+use Rattle.rewrite.proofs.rewrite_in.Tie as tie
 
 sub-rewrite-column : tie.Need-sub-rewrite-column
 sub-rewrite-column c = search needs

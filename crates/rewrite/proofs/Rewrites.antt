@@ -1,39 +1,40 @@
--- Laws for rewriting column u of a stripe, cell after cell.
+-- Laws for rewriting column u of a stripe, cell after cell or the whole column at once.
 --   two-spans        a cell that was set to a seed and a span, and then had another span added
+--   whole-copied     a column of which each cell was so set in other room, and which was copied from there
+--   column-short     a column of short cells is not long
 --   elsewhere        the other columns stay
 --   spans-kept       so do the sums that the cells are rewritten to
---   special          a cell that was set to diagonal m - 1 is S
 --   rewrote-rows     a data column or H, rewritten by the rows, is the candidate
 --   rewrote-diagonals   D, rewritten by the diagonals, is the candidate
 use mathlib.Core.Path.{_≡_, refl, sym, ap, ap₂, _∙_}
 use mathlib.Core.Logic.{_≢_}
 use mathlib.Core.Bool.{true, false}
 use mathlib.Core.List.{List, []}
-use Prim.Native.Nat.{ℕ, _+_, _*_, _-_, _≤_, _<_}
-use native.Mathlib.Nat.{le-refl, mul-le-mul-right}
+use Prim.Native.Nat.{ℕ, _+_, _*_, _-_, _%_, _≤_, _<_}
+use native.Mathlib.Nat.{le-refl, mul-le-mul, mul-le-mul-right}
 use native.Mathlib.Omega.{arith}
-use lib.ListN.{getD}
+use lib.ListN.{length, getD}
+use borrow.Rule.Slice.PartMut.{putMid}
 use Rattle.parity.specs.Xor.{_⊕_}
 use Rattle.parity.specs.Shape.{columnLength}
 use Rattle.parity.specs.Equations.{S, amountD}
 use Rattle.parity.specs.Stripe.{byte, lane}
 use Rattle.parity.specs.Candidate.{candidate}
-use Rattle.parity.proofs.Xor.{xor, zero-⊕}
+use Rattle.parity.proofs.Xor.{xor}
 use Rattle.parity.proofs.Candidate.{candidate-h, candidate-d}
 use Rattle.cells.specs.Runs.{Put}
 use Rattle.cells.proofs.Parts.{parts-end, by-order}
-use Rattle.cells.proofs.Puts.{put-start, put-same, put-again}
-use Rattle.lines.specs.Lines.{real, line, span, Crosses}
-use Rattle.lines.proofs.Lines.{real-in, span-none, span-line, line-but}
+use Rattle.cells.proofs.Puts.{put-same, put-count, put-part, put-again}
+use Rattle.lines.specs.Lines.{real, line, span, Sized, seedOf}
+use Rattle.lines.specs.Rows.{Lined}
+use Rattle.lines.proofs.Lines.{real-in, span-none, span-line, line-but, column-is}
+use Rattle.lines.proofs.Rows.{Grown, lined-same, lined-grown}
+use Rattle.lines.proofs.Whole.{whole-line}
 use Rattle.lines.proofs.Equations.{row-at, row-line, S-line, D-line}
 use Rattle.lines.proofs.Valid.{span-agree}
 use Rattle.lines.proofs.Cells.{cell-end}
-use Rattle.fill.specs.Fill.{seedOf, Lined}
 use Rattle.lines.proofs.Seeds.{seed-fresh, seed-kept}
-use Rattle.blame.specs.Blame.{Rewrote}
-
-pub crosses-length : {m c n n′ e i x y : ℕ} → n′ ≡ n → Crosses m c n e i x y → Crosses m c n′ e i x y
-crosses-length q z = record { slant = z .slant; inside = z .inside; order = z .order; within = z .within; most = z .most; columns = omega (arith, z .columns) }
+use Rattle.rewrite.specs.Rewrite.{Rewrote}
 
 pub two-spans : (m b : ℕ) (s seed : List ℕ) (e i t y z : ℕ) {w w₁ w₂ : List ℕ} → Put w w₁ 0 b (λ l. seedOf true seed w 0 l ⊕ span m (lane m b s l) e i 0 t)
     → Put w₁ w₂ 0 b (λ l. seedOf false seed w₁ 0 l ⊕ span m (lane m b s l) e i y z)
@@ -41,6 +42,29 @@ pub two-spans : (m b : ℕ) (s seed : List ℕ) (e i t y z : ℕ) {w w₁ w₂ :
 two-spans m b s seed e i t y z {w} {w₁} p q = put-again (λ l. span m (lane m b s l) e i y z)
     (put-same p (λ l _. ap (λ (x : ℕ). x ⊕ span m (lane m b s l) e i 0 t) (seed-fresh seed w 0 l refl)))
     (put-same q (λ l _. ap (λ (x : ℕ). x ⊕ span m (lane m b s l) e i y z) (seed-kept seed w₁ 0 l refl)))
+
+-- a column that was set in other room, and copied from there
+column-copied : {m b c : ℕ} → Sized m b c → (s w v y : List ℕ) (at : ℕ) (f : ℕ → ℕ → ℕ) → at + c ≤ length s → length w ≡ c → Lined (m - 1) b 0 w v f → y ≡ v
+    → Lined (m - 1) b at s (putMid at (at + c - at) s y) f
+column-copied {m} {b} {c} sized s w v y at f room size p e =
+    let put = put-count {k = c} (put-part s y at (at + c - at) (λ l. getD v (0 + l) 0) (omega arith) (ap length e ∙ p .size ∙ omega arith)
+    (λ l _. let z : l ≡ 0 + l = omega arith in ap (λ (x : List ℕ). getD x l 0) e ∙ ap (λ (x : ℕ). getD v x 0) z)) (omega arith) in record {
+      size = put .size;
+      inside = λ r l hr hl. put .inside (r * b + l) (omega (arith, column-is m b c sized, parts-end b hr)) ∙ p .inside r l hr hl;
+      before = put .before;
+      after = λ x h. put .after x (omega (arith, column-is m b c sized));
+    }
+
+module _ (m b c : ℕ) (sized : Sized m b c) where
+  pub whole-copied : (s seed w v₁ v₂ y : List ℕ) (e t n z at : ℕ) → at + c ≤ length s → length w ≡ c
+      → Lined (m - 1) b 0 w v₁ (λ r l. getD seed l 0 ⊕ span m (lane m b s l) e ((r + 0) % m) 0 t) → Grown (m - 1) b 0 v₁ v₂ (λ r l. span m (lane m b s l) e ((r + 0) % m) n z) → y ≡ v₂
+      → Lined (m - 1) b at s (putMid at (at + c - at) s y) (λ i l. getD seed l 0 ⊕ span m (lane m b s l) e i 0 t ⊕ span m (lane m b s l) e i n z)
+  whole-copied s seed w v₁ v₂ y e t n z at room size p q so =
+      column-copied sized s w v₂ y at _ room size (lined-same (lined-grown (m - 1) b 0 (λ r l. span m (lane m b s l) e ((r + 0) % m) n z) p q) (λ r l hr hl.
+      ap (λ (i : ℕ). getD seed l 0 ⊕ span m (lane m b s l) e i 0 t ⊕ span m (lane m b s l) e i n z) (whole-line (omega arith)))) so
+
+  pub column-short : b < 128 → c ≤ 16384
+  column-short h = let q : (m - 1) * b ≤ 126 * 127 = mul-le-mul {n₂ = 126} {m₂ = 127} (omega (arith, sized .few)) (omega arith) in omega (arith, column-is m b c sized)
 
 module _ (m b c u : ℕ) (column : c ≡ columnLength m b) (s : List ℕ) where
   module _ {n : ℕ} {v : List ℕ} {f : ℕ → ℕ → ℕ} (most : n ≤ m - 1) (p : Lined n b (u * c) s v f) where
@@ -96,13 +120,6 @@ module _ (m k b : ℕ) (few : k ≤ m) (s : List ℕ) (l i : ℕ) (hi : i < m - 
     where
       tidy : (x p q : ℕ) → x ⊕ (x ⊕ (p ⊕ q)) ≡ p ⊕ q ⊕ 0
       tidy x p q = simp xor
-
--- a cell that was set to diagonal m - 1 is S
-pub special : (m k b : ℕ) (s w x : List ℕ) → Put w x 0 b (λ l. seedOf true [] w 0 l ⊕ span m (lane m b s l) 1 (m - 1) 0 k)
-    → (l : ℕ) → l < b → getD x l 0 ≡ line m (lane m b s l) 1 (m - 1) k
-special m k b s w x p l h =
-    put-start p l h ∙ ap (λ (v : ℕ). v ⊕ span m (lane m b s l) 1 (m - 1) 0 k) (seed-fresh [] w 0 l refl)
-    ∙ zero-⊕ (span m (lane m b s l) 1 (m - 1) 0 k) ∙ span-line m (lane m b s l) 1 (m - 1) k
 
 module _ (m k b c : ℕ) (column : c ≡ columnLength m b) (few : k ≤ m) (s v : List ℕ) where
   pub rewrote-rows : (u : ℕ) → u ≤ k → Lined (m - 1) b (u * c) s v (λ i l. getD [] l 0 ⊕ span m (lane m b s l) 0 i 0 u ⊕ span m (lane m b s l) 0 i (u + 1) (k + 1)) → Rewrote m k b u s v

@@ -1,4 +1,4 @@
--- `blame::rewrite_column` meets its contract. The invariant: the rows before i are rewritten, and nothing else was changed.
+-- `rewrite::rewrite_column` meets its contract. The invariant: the rows before i are rewritten, and nothing else was changed.
 use mathlib.Core.Path.{_≡_}
 use Prim.Native.Nat.{_*_, _-_, _≤_}
 use native.Mathlib.Nat.{le-refl}
@@ -8,14 +8,14 @@ use Rattle.parity.specs.Xor.{_⊕_}
 use Rattle.parity.specs.Stripe.{lane}
 use Rattle.cells.proofs.Puts.{put-same}
 use Rattle.lines.specs.Lines.{span}
-use Rattle.lines.proofs.Lines.{crosses-line}
+use Rattle.lines.proofs.Lines.{crosses-line, crosses-length}
 use Rattle.fill.specs.Fill.{Lined}
 use Rattle.fill.proofs.Rows.{lined-none, lined-more, lined-count}
-use Rattle.blame.proofs.Rewrites.{crosses-length, spans-kept}
+use Rattle.rewrite.proofs.Rewrites.{spans-kept}
 use borrow.Author.Needs.{needs}
 use native.Mathlib.Omega.{arith}
-use Rattle.blame.proofs.rewrite_column.Statement.{statement}
-use Rattle.blame.proofs.rewrite_column.Tie as tie
+use Rattle.rewrite.proofs.rewrite_column.Statement.{statement}
+use Rattle.rewrite.proofs.rewrite_column.Tie as tie
 
 abbrev Inv-loop : tie.InvT-loop
 Inv-loop cell₀ seed s₀ g slant x y z u i₀ i-end cell s i =

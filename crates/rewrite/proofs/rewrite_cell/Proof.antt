@@ -1,14 +1,14 @@
--- `blame::rewrite_cell` meets its contract: the cell is summed, and copied to its place.
+-- `rewrite::rewrite_cell` meets its contract: the cell is summed, and copied to its place.
 use Prim.Native.Nat.{_+_, _*_, _-_}
 use mathlib.Core.Path.{sym}
 use denote.Ref.{now}
 use Rattle.cells.proofs.Puts.{put-count, put-copied}
 use Rattle.lines.proofs.Lines.{cell-room}
-use Rattle.blame.proofs.Rewrites.{two-spans}
+use Rattle.rewrite.proofs.Rewrites.{two-spans}
 use borrow.Author.Needs.{needs}
 use native.Mathlib.Omega.{arith}
-use Rattle.blame.proofs.rewrite_cell.Statement.{statement}
-use Rattle.blame.proofs.rewrite_cell.Tie as tie
+use Rattle.rewrite.proofs.rewrite_cell.Statement.{statement}
+use Rattle.rewrite.proofs.rewrite_cell.Tie as tie
 
 fill-cell-requires : tie.Need-fill-cell-requires
 fill-cell-requires c κs = search needs
