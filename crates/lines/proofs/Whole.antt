@@ -1,5 +1,6 @@
 -- Whole columns of a whole stripe: what the loops over them ask for, and the lines that they start from.
 --   row-crosses, diagonal-crosses   rows go through all columns of a stripe, diagonals through the data columns
+--   column-crosses                  rows go through a column that stands alone
 --   column-room, short-column       a column has room for its m - 1 cells; a column of short cells is not long
 --   seed-none, no-seed              an empty seed is long enough, and zero
 --   whole-line, turned-by           row r, shifted by nothing, is row r; shifted by as much as u rows up, it is the row u rows up
@@ -39,6 +40,9 @@ module _ {m k b c p : ℕ} (z : Sized m b c) (few : k ≤ m) (whole : p ≡ (k +
     most = omega arith;
     columns = columns (omega arith);
   }
+
+pub column-crosses : {m b c n i : ℕ} → Sized m b c → n ≡ c → i < m → Crosses m c n 0 i 0 1
+column-crosses z e h = record { slant = omega arith; inside = h; order = omega arith; within = omega arith; most = omega arith; columns = omega arith }
 
 pub column-room : {m b c n : ℕ} → Sized m b c → n ≡ c → 0 + (m - 1) * b ≤ n
 column-room {m} {b} {c} z h = omega (arith, column-is m b c z)

@@ -6,22 +6,25 @@
 --   seed-turned, row-turned     a cell, and a row, of a column that is turned by u
 --   turned-first, turned-other  so is a column that was set, for u = 0 and for other u
 --   turned-tells                what a column tells of which every byte should be zero
+--   picked-rows, picked-diagonals   a lane that was picked
 --   blames-same                 the same amounts by another name
 use mathlib.Core.Path.{_≡_, refl, sym, ap, ap₂, _∙_, subst}
 use mathlib.Core.Bool.{true≢false}
 use mathlib.Core.List.{List}
 use Prim.Native.Nat.{ℕ, _+_, _*_, _-_, _/_, _%_, _≤_, _<_}
 use native.Mathlib.Nat.{mod-lt, mod-add-div', div-mul-le-self, mul-le-mul-right}
+use native.Mathlib.Decide.{decLt}
 use native.Mathlib.Omega.{arith}
 use lib.Dec.{eqb}
-use lib.ListN.{length, getD}
+use lib.ListN.{length, getD, set, getD-set-same, getD-set-other}
 use borrow.Author.Tests.{eq-eqb, eqb-true}
 use Rattle.parity.specs.Xor.{_⊕_}
 use Rattle.parity.specs.Equations.{back}
 use Rattle.parity.specs.Stripe.{lane}
 use Rattle.parity.proofs.Xor.{⊕-self, ⊕-comm, ⊕-eq, zero-⊕}
-use Rattle.cells.specs.Runs.{Tells}
+use Rattle.cells.specs.Runs.{Put, Tells}
 use Rattle.cells.proofs.Parts.{part, part-at, parts-end, by-order}
+use Rattle.cells.proofs.Puts.{put-start}
 use Rattle.lines.specs.Lines.{real, span, rest}
 use Rattle.lines.specs.Rows.{Lined}
 use Rattle.lines.proofs.Lines.{up-straight, back-none, real-in, real-out, back-lt}
@@ -117,6 +120,24 @@ module _ (m b u : ℕ) (x y w v z : List ℕ) (big : 1 < m) (p : Lined (m - 1) b
       (λ so. zero-column m b z r full long t (λ l i hl hi.
       held l i hl hi ∙ ap (λ (v : ℕ). rowsAt m b x l (back m (m - 1) u) ⊕ rowsAt m b x l (back m i u) ⊕ v) (so l hl i hi ∙ ⊕-comm (rowsAt m b x l (back m i u)) (rowsAt m b x l (back m (m - 1) u)))
       ∙ ⊕-self (rowsAt m b x l (back m (m - 1) u) ⊕ rowsAt m b x l (back m i u))))
+
+-- ---- a lane that was picked
+
+module _ (m b : ℕ) (x : List ℕ) (l : ℕ) {w v : List ℕ} where
+  pub picked-rows : m - 1 < length w → Put w v 0 (m - 1) (λ i. getD x (i * b + l) 0) → (i : ℕ) → i < m → getD (set v (m - 1) 0) i 0 ≡ rowsAt m b x l i
+  picked-rows room p i hi = elim (decLt i (m - 1)) [
+    | yes h ↦ getD-set-other v 0 0 (λ (e : i ≡ m - 1). absurd (omega arith)) ∙ put-start p i h ∙ lane-at i ∙ sym (real-in m (lane m b x l) i 0 h)
+    | no h ↦ let e : i ≡ m - 1 = omega arith in
+        ap (λ (q : ℕ). getD (set v (m - 1) 0) q 0) e ∙ getD-set-same v (m - 1) 0 0 (omega (arith, p .size)) ∙ sym (real-out m (lane m b x l) i 0 (omega arith))
+  ]
+    where
+      lane-at : (i : ℕ) → getD x (i * b + l) 0 ≡ lane m b x l i 0
+      lane-at i = let q : i * b + l ≡ 0 + (i * b + l) = omega arith in ap (λ (v : ℕ). getD x v 0) q ∙ sym (first-at m b x i l)
+
+  pub picked-diagonals : Put w v 0 (m - 1) (λ i. getD x (i * b + l) 0) → (i : ℕ) → i < m - 1 → getD v i 0 ≡ diagonalsAt m b x l i
+  picked-diagonals p i h =
+      let q : i * b + l ≡ 0 + (i * b + l) = omega arith in
+      put-start p i h ∙ ap (λ (v : ℕ). getD x v 0) q ∙ sym (first-at m b x i l)
 
 -- ---- the same amounts by another name
 

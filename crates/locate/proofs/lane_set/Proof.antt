@@ -1,27 +1,29 @@
+-- `locate::lane_set` meets its contract, by the first byte that is not zero.
+use denote.Ref.{now}
+use Rattle.lines.proofs.Lines.{column-is}
+use Rattle.locate.proofs.Columns.{set-lane, none-set}
 use borrow.Author.Needs.{needs}
 use native.Mathlib.Omega.{arith}
-use borrow.Author.Needs.{needs}
 use Rattle.locate.proofs.lane_set.Statement.{statement}
 use Rattle.locate.proofs.lane_set.Tie as tie
-use Rattle.locate.proofs.lane_set.Reads as reads
-use Rattle.locate.proofs.lane_set.Lts as lts
-use Rattle.blame.proofs.find_set.Reads as find-set-reads
 
--- src/lib.rt:36:9
 find-set-requires : tie.Need-find-set-requires
 find-set-requires c κs = search needs
 
--- src/lib.rt:38:16
 rem-result : tie.Need-rem-result
 rem-result c = search needs
 
--- src/lib.rt:38:9
 returns : tie.Need-returns
-returns c = ?
+returns c =
+    let z = c .before .before .before in
+    let a = z .args in
+    set-lane (a .g .m) (a .g .b) (now (a .x)) (c .before .find-set .result) (omega (arith, z .pre .1 .filled)) (omega (arith, c .if1 .taken, z .pre .0, column-is (a .g .m) (a .g .b) (a .g .column) (z .pre .1))) (c .before .find-set .ensures .there (c .if1 .taken))
 
--- src/lib.rt:31:1
 returns-2 : tie.Need-returns-2
-returns-2 c = ?
+returns-2 c =
+    let z = c .before .before .before in
+    let a = z .args in
+    none-set (a .g .m) (a .g .b) (now (a .x)) (c .before .find-set .result) _ (c .before .find-set .ensures) (c .if1 .left) (omega (arith, z .pre .0, column-is (a .g .m) (a .g .b) (a .g .column) (z .pre .1)))
 
 pub lane-set-spec : {M : Type 1} → statement M
 lane-set-spec = tie.close (tie.spec find-set-requires rem-result returns returns-2)

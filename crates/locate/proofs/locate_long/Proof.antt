@@ -1,44 +1,42 @@
+-- `locate::locate_long` meets its contract: a suspect is tested.
+use mathlib.Core.Path.{subst}
+use denote.Ref.{now}
+use Rattle.blame.specs.Blame.{Suspects}
 use borrow.Author.Needs.{needs}
 use native.Mathlib.Omega.{arith}
-use borrow.Author.Needs.{needs}
 use Rattle.locate.proofs.locate_long.Statement.{statement}
 use Rattle.locate.proofs.locate_long.Tie as tie
-use Rattle.locate.proofs.locate_long.Reads as reads
-use Rattle.locate.proofs.locate_long.Lts as lts
-use Rattle.blame.proofs.find_suspect.Reads as find-suspect-reads
-use Rattle.locate.proofs.test_suspect.Reads as test-suspect-reads
 
--- src/lib.rt:228:11
 find-suspect-requires : tie.Need-find-suspect-requires
 find-suspect-requires c κs = search needs
 
--- src/lib.rt:229:29
 enum-told : tie.Need-enum-told
-enum-told c = search needs
+enum-told c = c .match .keys1
 
--- src/lib.rt:230:28
 enum-told-2 : tie.Need-enum-told-2
-enum-told-2 c = search needs
+enum-told-2 c = c .match .keys2
 
--- src/lib.rt:231:25
 enum-known-u : tie.Need-enum-known-u
-enum-known-u c = search needs
+enum-known-u c = c .match .keys3
 
--- src/lib.rt:231:31
 test-suspect-requires : tie.Need-test-suspect-requires
-test-suspect-requires c κs = ?
+test-suspect-requires c κs =
+    let z = c .before .before .before .before .before in
+    let a = z .args in
+    (z .pre .0, z .pre .1, z .pre .2, z .pre .5, subst (Suspects (a .g .m) (a .k) (a .g .b) (now (a .s))) (c .before .u .given .1) (c .before .before .before .find-suspect .ensures))
 
--- src/lib.rt:224:1
 returns : tie.Need-returns
-returns c = ?
+returns c =
+    let a = c .before .before .before .before .args in
+    subst (Suspects (a .g .m) (a .k) (a .g .b) (now (a .s))) (c .enum-told .given .1) (c .before .before .find-suspect .ensures)
 
--- src/lib.rt:224:1
 returns-2 : tie.Need-returns-2
-returns-2 c = ?
+returns-2 c =
+    let a = c .before .before .before .before .args in
+    subst (Suspects (a .g .m) (a .k) (a .g .b) (now (a .s))) (c .enum-told2 .given .1) (c .before .before .find-suspect .ensures)
 
--- src/lib.rt:224:1
 returns-3 : tie.Need-returns-3
-returns-3 c = search needs
+returns-3 c = c .test-suspect .ensures
 
 pub locate-long-spec : {M : Type 1} → statement M
 locate-long-spec =

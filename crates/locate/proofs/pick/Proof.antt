@@ -1,55 +1,67 @@
+-- `locate::pick` meets its contract. The invariant: the bytes before i are picked, the others as they were.
+use mathlib.Core.Path.{_≡_, refl, subst}
+use Prim.Native.Nat.{ℕ, _+_, _*_, _-_, _≤_}
+use lib.ListN.{getD, set}
+use denote.Ref.{now}
+use Rattle.cells.specs.Runs.{Put}
+use Rattle.cells.proofs.Parts.{parts-end}
+use Rattle.cells.proofs.Puts.{put-none, put-one, put-count}
 use borrow.Author.Needs.{needs}
 use native.Mathlib.Omega.{arith}
 use Rattle.locate.proofs.pick.Statement.{statement}
 use Rattle.locate.proofs.pick.Tie as tie
-use Rattle.locate.proofs.pick.Reads as reads
-use Rattle.locate.proofs.pick.Lts as lts
 
 abbrev Inv-loop : tie.InvT-loop
-Inv-loop h₀ x b l n i₀ h i = ?
+Inv-loop h₀ x b l n i₀ h i = (i ≤ n) × Put h₀ h 0 i (λ i. getD x (i * b + l) 0)
 
 abbrev μ-loop : tie.MeasureT-loop
-μ-loop h₀ x b l n i₀ h i = ?
+μ-loop h₀ x b l n i₀ h i = n - i
 
--- src/lib.rt:60:5
 loop-holds : tie.Need-loop-holds Inv-loop μ-loop
-loop-holds c = ?
+loop-holds c =
+    let a = c .args in
+    (omega arith, put-none (now (a .h)) 0 (λ i. getD (now (a .x)) (i * a .b + a .l) 0))
 
--- src/lib.rt:61:18
 mul-h : tie.Need-mul-h Inv-loop μ-loop
-mul-h c = ?
+mul-h c =
+    let z = c .before .before in
+    omega (arith, z .pre .3, parts-end (z .args .b) (c .loop-test .taken))
 
--- src/lib.rt:61:18
 add-h : tie.Need-add-h Inv-loop μ-loop
-add-h c = ?
+add-h c =
+    let z = c .before .before in
+    omega (arith, z .pre .2, z .pre .3, parts-end (z .args .b) (c .loop-test .taken))
 
--- src/lib.rt:61:16
 shared-slice-read-h : tie.Need-shared-slice-read-h Inv-loop μ-loop
-shared-slice-read-h c = ?
+shared-slice-read-h c =
+    let z = c .before .before .before in
+    omega (arith, z .pre .1, z .pre .2, parts-end (z .args .b) (c .before .loop-test .taken))
 
--- src/lib.rt:61:9
 slice-write-h : tie.Need-slice-write-h Inv-loop μ-loop
-slice-write-h c = ?
+slice-write-h c = omega (arith, c .before .before .before .pre .0, c .before .loop-test .taken, c .before .before .loop .inv .1 .size)
 
--- src/lib.rt:60:9
 add-i : tie.Need-add-i Inv-loop μ-loop
-add-i c = ?
+add-i c = search needs
 
--- src/lib.rt:60:5
 loop-less : tie.Need-loop-less Inv-loop μ-loop
-loop-less c = ?
+loop-less c = search needs
 
--- src/lib.rt:60:5
 loop-again : tie.Need-loop-again Inv-loop μ-loop
-loop-again c = ?
+loop-again c =
+    let z = c .before .before .before in
+    let a = z .args in
+    let y = c .before .before .loop in
+    let f : ℕ → ℕ = λ i. getD (now (a .x)) (i * a .b + a .l) 0 in
+    let e : 0 + y .i ≡ y .i = omega arith in (
+      omega (arith, c .before .loop-test .taken),
+      subst (λ (n : ℕ). Put (now (a .h)) (set (y .h) n (f (y .i))) 0 (y .i + 1) f) e (put-one (now (a .h)) (y .h) 0 (y .i) (f (y .i)) f (omega (arith, z .pre .0, c .before .loop-test .taken, y .inv .1 .size)) refl (y .inv .1)),
+    )
 
--- src/lib.rt:56:1
 same-length : tie.Need-same-length Inv-loop μ-loop
-same-length c = ?
+same-length c = c .before .loop .inv .1 .size
 
--- src/lib.rt:56:1
 returns : tie.Need-returns Inv-loop μ-loop
-returns c = ?
+returns c = put-count (c .before .loop .inv .1) (omega (arith, c .before .loop .inv .0, c .loop-test .left))
 
 pub pick-spec : {M : Type 1} → statement M
 pick-spec =

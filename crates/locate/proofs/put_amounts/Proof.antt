@@ -1,38 +1,46 @@
+-- `locate::put_amounts` meets its contract: the lines first, and then column t.
+use denote.Ref.{now}
+use Rattle.lines.proofs.Lines.{crosses-line}
+use Rattle.lines.proofs.Whole.{row-crosses, diagonal-crosses, column-room}
+use Rattle.locate.proofs.Columns.{summed}
 use borrow.Author.Needs.{needs}
 use native.Mathlib.Omega.{arith}
-use borrow.Author.Needs.{needs}
 use Rattle.locate.proofs.put_amounts.Statement.{statement}
 use Rattle.locate.proofs.put_amounts.Tie as tie
-use Rattle.locate.proofs.put_amounts.Reads as reads
-use Rattle.locate.proofs.put_amounts.Lts as lts
-use Rattle.fill.proofs.fill_lines.Reads as fill-lines-reads
-use Rattle.seeded.proofs.set_rows.Reads as set-rows-reads
 
--- src/lib.rt:25:16
 sub-rows : tie.Need-sub-rows
 sub-rows c = search needs
 
--- src/lib.rt:26:5
 set-rows-requires : tie.Need-set-rows-requires
-set-rows-requires c κs = ?
+set-rows-requires c κs =
+    let z = c .before .before .before .before .before in
+    let p = z .pre in
+    (p .1, column-room (p .5) (p .0), omega (arith, p .5 .big), omega (arith, p .5 .big), p .5, crosses-line (z .args .slant) 0 (p .2) (omega (arith, p .5 .big)) (diagonal-crosses (p .5) (p .4) (p .6) {i = 0} (omega (arith, p .5 .big)) (omega arith) (omega arith)))
 
--- src/lib.rt:27:49
 add-fill-lines : tie.Need-add-fill-lines
 add-fill-lines c = search needs
 
--- src/lib.rt:27:5
 fill-lines-requires : tie.Need-fill-lines-requires
-fill-lines-requires c κs = ?
+fill-lines-requires c κs =
+    let z = c .before .before .before .before .before .before .before .before .before in
+    let p = z .pre in
+    (column-room (p .5) (omega (arith, p .0, c .before .before .before .set-rows .ensures .size)), omega (arith, p .5 .big), omega (arith, p .5 .big), p .5, row-crosses (p .5) (p .4) (p .6) (omega (arith, p .5 .big)) (omega arith) (omega (arith, p .3)))
 
--- src/lib.rt:21:1
 same-length : tie.Need-same-length
 same-length c = search needs
 
--- src/lib.rt:21:1
 returns : tie.Need-returns
-returns c = ?
+returns c =
+    let a = c .before .before .before .before .before .before .before .before .before .before .before .before .args in
+    summed (a .g .m) (a .g .b) (now (a .s)) (now (a .seed)) (a .slant) (a .k) (a .t) (c .before .before .before .before .before .before .set-rows .ensures) (c .before .before .fill-lines .ensures)
 
 pub put-amounts-spec : {M : Type 1} → statement M
 put-amounts-spec =
     tie.close
-    (tie.spec sub-rows set-rows-requires add-fill-lines fill-lines-requires same-length returns)
+    (tie.spec
+    sub-rows
+    set-rows-requires
+    add-fill-lines
+    fill-lines-requires
+    same-length
+    returns)
