@@ -29,12 +29,12 @@ use Rattle.blame.specs.declared.Suspect.the-variants.{Nothing, Column, Nobody}
 use Rattle.repair.specs.Patches.{Patches}
 use Rattle.evenodd.specs.declared.mending.Mended.{Mended}
 use Rattle.evenodd.specs.declared.mending.Mended.the-variants as mended
-use Rattle.evenodd.specs.declared.shapes.Refusal.the-variants.{Unmendable}
-use Rattle.evenodd.specs.Refusals.{Verdict, Gives}
-use Rattle.evenodd.specs.Shapes.{stripeRules}
+use Rattle.inputs.specs.declared.shapes.Refusal.the-variants.{Unmendable}
+use Rattle.inputs.specs.Refusals.{Verdict, Gives}
+use Rattle.inputs.specs.Shapes.{stripeRules}
 use Rattle.evenodd.specs.Mends.{blameRules, mendRules, Mends}
-use Rattle.evenodd.proofs.Rules.{gives-first, gives-next, gives-after}
-use Rattle.evenodd.proofs.Stripe.{stripe-passed}
+use Rattle.inputs.proofs.Rules.{gives-first, gives-next, gives-after}
+use Rattle.inputs.proofs.Stripe.{stripe-passed}
 
 -- the answer that each suspect brings
 abbrev pub mendedBy : Suspect → Mended

@@ -21,18 +21,18 @@ use Rattle.parity.proofs.Theorems.{frame, served, at-most-one, absent-unread, o
 use Rattle.marks.proofs.Absent.{nth-one}
 use Rattle.evenodd.specs.declared.checking.Checked.the-variants as checked
 use Rattle.evenodd.specs.declared.encoding.Encoded.the-variants as encoded
-use Rattle.evenodd.specs.declared.maps.Map.{Map}
+use Rattle.inputs.specs.declared.maps.Map.{Map}
 use Rattle.evenodd.specs.declared.mending.Mended.the-variants as mended
 use Rattle.evenodd.specs.declared.restoring.Restored.{Restored}
 use Rattle.evenodd.specs.declared.restoring.Restored.the-variants as restored
-use Rattle.evenodd.specs.Refusals.{pass, Gives}
-use Rattle.evenodd.specs.Shapes.{stripeRules}
+use Rattle.inputs.specs.Refusals.{pass, Gives}
+use Rattle.inputs.specs.Shapes.{stripeRules}
 use Rattle.evenodd.specs.Restores.{restoreRules, benchRules, Benched, Left}
 use Rattle.evenodd.specs.Mends.{mendRules, blameRules}
 use Rattle.evenodd.specs.Determined.{EncodesOne, ChecksOne, RestoresOne, RestoresUnread, MendsOne}
-use Rattle.evenodd.proofs.Rules.{passes-not, refuse-one, equal-of, gives-one, passed-first, gives-passed, Alike, gives-alike}
-use Rattle.evenodd.proofs.Shape.{passed-shape}
-use Rattle.evenodd.proofs.Stripe.{stripe-given}
+use Rattle.inputs.proofs.Rules.{passes-not, refuse-one, equal-of, gives-one, passed-first, gives-passed, Alike, gives-alike}
+use Rattle.inputs.proofs.Shape.{passed-shape}
+use Rattle.inputs.proofs.Stripe.{stripe-given}
 
 -- ---- encode and check
 

@@ -25,19 +25,19 @@ use Rattle.marks.specs.declared.Gaps.{Gaps}
 use Rattle.marks.specs.Absent.{absentBelow, NthAbsent, Counts}
 use Rattle.marks.proofs.Absent.{absences-below, below-under, others-present}
 use Rattle.repair.specs.Fills.{Gapped, Filled, Fills}
-use Rattle.evenodd.specs.declared.maps.Map.{Map}
+use Rattle.inputs.specs.declared.maps.Map.{Map}
 use Rattle.evenodd.specs.declared.restoring.Restored.the-variants.{Columns, Refused}
-use Rattle.evenodd.specs.declared.shapes.Judged.{Judged}
-use Rattle.evenodd.specs.declared.shapes.Judged.the-variants as judged
-use Rattle.evenodd.specs.declared.shapes.Refusal.{Refusal}
-use Rattle.evenodd.specs.declared.shapes.Refusal.the-variants.{Ambiguous, Contradicted}
-use Rattle.evenodd.specs.Refusals.{Verdict, Rule, Gives}
-use Rattle.evenodd.specs.Shapes.{refusalOf}
-use Rattle.evenodd.specs.Maps.{TooManyAbsent}
-use Rattle.evenodd.specs.Tests.{stripeTests, lentTests, JudgesLent}
+use Rattle.inputs.specs.declared.shapes.Judged.{Judged}
+use Rattle.inputs.specs.declared.shapes.Judged.the-variants as judged
+use Rattle.inputs.specs.declared.shapes.Refusal.{Refusal}
+use Rattle.inputs.specs.declared.shapes.Refusal.the-variants.{Ambiguous, Contradicted}
+use Rattle.inputs.specs.Refusals.{Verdict, Rule, Gives}
+use Rattle.inputs.specs.Shapes.{refusalOf}
+use Rattle.inputs.specs.Maps.{TooManyAbsent}
+use Rattle.inputs.specs.Tests.{stripeTests, lentTests, JudgesLent}
 use Rattle.evenodd.specs.Restores.{restoreRules, Benched, RestoredFrom, Restores}
-use Rattle.evenodd.proofs.Rules.{gives-first, gives-next, gives-after}
-use Rattle.evenodd.proofs.Tests.{Lent, told-refused}
+use Rattle.inputs.proofs.Rules.{gives-first, gives-next, gives-after}
+use Rattle.inputs.proofs.Tests.{Lent, told-refused}
 
 module _ (m k b : ℕ) (h : Shape m k b) (map : List Bool) (s : List ℕ) (st : Stripe m k b s) (n first second : ℕ)
     (counted : n ≡ absentBelow (k + 2) map) (lowest : NthAbsent (k + 2) 0 map first) (other : NthAbsent (k + 2) 1 map second) where

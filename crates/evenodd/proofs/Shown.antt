@@ -20,20 +20,20 @@ use Rattle.parity.specs.Presence.{present, absences}
 use Rattle.marks.specs.declared.Gaps.{Gaps}
 use Rattle.marks.specs.Absent.{Counts}
 use Rattle.marks.proofs.Absent.{absences-below, below-under}
-use Rattle.evenodd.specs.declared.maps.Map.{Map}
+use Rattle.inputs.specs.declared.maps.Map.{Map}
 use Rattle.evenodd.specs.declared.showing.Place.the-variants.{InStripe, InBench, Refused}
-use Rattle.evenodd.specs.declared.shapes.Judged.{Judged}
-use Rattle.evenodd.specs.declared.shapes.Judged.the-variants as judged
-use Rattle.evenodd.specs.declared.shapes.Refusal.{Refusal}
-use Rattle.evenodd.specs.declared.shapes.Refusal.the-variants.{NoSuchColumn, Ambiguous}
-use Rattle.evenodd.specs.Refusals.{pass, refuse, Rule, Gives}
-use Rattle.evenodd.specs.Shapes.{refusalOf}
-use Rattle.evenodd.specs.Maps.{Stray, TooManyAbsent, absentBelow}
-use Rattle.evenodd.specs.Tests.{stripeTests, lentTests, JudgesLent}
+use Rattle.inputs.specs.declared.shapes.Judged.{Judged}
+use Rattle.inputs.specs.declared.shapes.Judged.the-variants as judged
+use Rattle.inputs.specs.declared.shapes.Refusal.{Refusal}
+use Rattle.inputs.specs.declared.shapes.Refusal.the-variants.{NoSuchColumn, Ambiguous}
+use Rattle.inputs.specs.Refusals.{pass, refuse, Rule, Gives}
+use Rattle.inputs.specs.Shapes.{refusalOf}
+use Rattle.inputs.specs.Maps.{Stray, TooManyAbsent, absentBelow}
+use Rattle.inputs.specs.Tests.{stripeTests, lentTests, JudgesLent}
 use Rattle.evenodd.specs.Shows.{laterRules, showRules, half, Places}
-use Rattle.evenodd.proofs.Rules.{gives-first, gives-next, gives-after, passed-first, equal-of}
-use Rattle.evenodd.proofs.Shape.{places-most, parts-most, after-shape, passed-shape}
-use Rattle.evenodd.proofs.Tests.{Lent, told-refused}
+use Rattle.inputs.proofs.Rules.{gives-first, gives-next, gives-after, passed-first, equal-of}
+use Rattle.inputs.proofs.Shape.{places-most, parts-most, after-shape, passed-shape}
+use Rattle.inputs.proofs.Tests.{Lent, told-refused}
 
 pub record NotRefused (m k b : ℕ) (map : Map) (s bench : List ℕ) (column : ℕ) : Type 0 where
   pub shape : Shape m k b

@@ -1,53 +1,26 @@
 -- Each promise determines its result: two results that meet it are equal. Each statement is a type, which proofs/Determined inhabits.
--- What `is_present` and `number` promise is an equation, so there is nothing to say of them. Of a part that show hands out, the place and the bytes are
--- determined: `SamePart`. The name under which the logic follows a reference is no part of the answer.
---   JudgesOne, NewOne, OfBytesOne, AsBytesOne, MarksOne, JudgesPlaceOne, PlacesOne, ShowsOne, EncodesOne, ChecksOne, RestoresOne, MendsOne    the promise of each call
---   MarkedTwice                  marking twice equals marking once
+-- Of a part that show hands out, the place and the bytes are determined: `SamePart`. The name under which the logic follows a reference is no part
+-- of the answer.
+--   PlacesOne, ShowsOne, EncodesOne, ChecksOne, RestoresOne, MendsOne    the promise of each call
 --   PlacesUnread, ShowsUnread    no byte of stripe or bench alters where a column is shown: their lengths alone are asked
 --   RestoresUnread               what stands in an absent column's place alters neither restore's answer nor the bench
 use mathlib.Core.Path.{_≡_}
-use mathlib.Core.Bool.{Bool}
 use mathlib.Core.List.{List}
 use Prim.Native.Nat.{ℕ}
 use denote.Ref.{RefT, now}
 use lib.ListN.{length}
 use Rattle.parity.specs.Presence.{Agrees}
+use Rattle.inputs.specs.declared.maps.Map.{Map}
 use Rattle.evenodd.specs.declared.checking.Checked.{Checked}
 use Rattle.evenodd.specs.declared.encoding.Encoded.{Encoded}
-use Rattle.evenodd.specs.declared.maps.Map.{Map}
-use Rattle.evenodd.specs.declared.maps.Marked.{Marked}
 use Rattle.evenodd.specs.declared.mending.Mended.{Mended}
 use Rattle.evenodd.specs.declared.restoring.Restored.{Restored}
-use Rattle.evenodd.specs.declared.shapes.Judged.{Judged}
 use Rattle.evenodd.specs.declared.showing.Place.{Place}
-use Rattle.evenodd.specs.Shapes.{Judges}
-use Rattle.evenodd.specs.Maps.{New, OfBytes, AsBytes, Marks, JudgesPlace}
 use Rattle.evenodd.specs.Shows.{Places, Shows}
 use Rattle.evenodd.specs.Encodes.{Encodes}
 use Rattle.evenodd.specs.Checks.{Checks}
 use Rattle.evenodd.specs.Restores.{Restores}
 use Rattle.evenodd.specs.Mends.{Mends}
-
-unfoldable pub JudgesOne : Type 0
-JudgesOne = (m k b : ℕ) (r q : Judged) → Judges m k b r → Judges m k b q → r ≡ q
-
-unfoldable pub NewOne : Type 0
-NewOne = (r q : Map) → New r → New q → r ≡ q
-
-unfoldable pub OfBytesOne : Type 0
-OfBytesOne = (bytes : List ℕ) (r q : Map) → OfBytes bytes r → OfBytes bytes q → r ≡ q
-
-unfoldable pub AsBytesOne : Type 0
-AsBytesOne = (map : Map) (x y : List ℕ) → AsBytes map x → AsBytes map y → x ≡ y
-
-unfoldable pub MarksOne : Type 0
-MarksOne = (state : Bool) (before : Map) (place : ℕ) (r q : Map) → Marks state before place r → Marks state before place q → r ≡ q
-
-unfoldable pub MarkedTwice : Type 0
-MarkedTwice = (state : Bool) (before : Map) (place : ℕ) (once twice : Map) → Marks state before place once → Marks state once place twice → twice ≡ once
-
-unfoldable pub JudgesPlaceOne : Type 0
-JudgesPlaceOne = (place : ℕ) (r q : Marked) → JudgesPlace place r → JudgesPlace place q → r ≡ q
 
 unfoldable pub PlacesOne : Type 0
 PlacesOne = (m k b : ℕ) (map : Map) (s bench : List ℕ) (column : ℕ) (r q : Place)

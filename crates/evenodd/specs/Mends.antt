@@ -10,9 +10,9 @@ use Rattle.parity.specs.Stripe.{Valid}
 use Rattle.parity.specs.Presence.{differing, DifferIn}
 use Rattle.evenodd.specs.declared.mending.Mended.{Mended}
 use Rattle.evenodd.specs.declared.mending.Mended.the-variants as mended
-use Rattle.evenodd.specs.declared.shapes.Refusal.the-variants.{Unmendable}
-use Rattle.evenodd.specs.Refusals.{Verdict, pass, refuse, Rule, Gives}
-use Rattle.evenodd.specs.Shapes.{stripeRules}
+use Rattle.inputs.specs.declared.shapes.Refusal.the-variants.{Unmendable}
+use Rattle.inputs.specs.Refusals.{Verdict, pass, refuse, Rule, Gives}
+use Rattle.inputs.specs.Shapes.{stripeRules}
 
 abbrev pub blameRules : ℕ → ℕ → ℕ → List ℕ → List Rule
 blameRules m k b s = record { condition = (v : List ℕ) → Valid m k b v → differing m k b s v ≤ 1 → ⊥; refusal = Unmendable } ∷ []

@@ -12,13 +12,13 @@ use lib.ListN.{length}
 use Rattle.parity.specs.Shape.{stripeLength, benchLength}
 use Rattle.parity.specs.Stripe.{byte, Valid}
 use Rattle.parity.specs.Presence.{absences, Agrees}
-use Rattle.evenodd.specs.declared.maps.Map.{Map}
+use Rattle.inputs.specs.declared.maps.Map.{Map}
 use Rattle.evenodd.specs.declared.restoring.Restored.{Restored}
 use Rattle.evenodd.specs.declared.restoring.Restored.the-variants.{Columns, Refused}
-use Rattle.evenodd.specs.declared.shapes.Refusal.the-variants.{StripeLength, BenchLength, StrayColumn, Ambiguous, Contradicted}
-use Rattle.evenodd.specs.Refusals.{Verdict, pass, refuse, Rule, Gives}
-use Rattle.evenodd.specs.Shapes.{shapeRules}
-use Rattle.evenodd.specs.Maps.{Stray, TooManyAbsent, NthAbsent}
+use Rattle.inputs.specs.declared.shapes.Refusal.the-variants.{StripeLength, BenchLength, StrayColumn, Ambiguous, Contradicted}
+use Rattle.inputs.specs.Refusals.{Verdict, pass, refuse, Rule, Gives}
+use Rattle.inputs.specs.Shapes.{shapeRules}
+use Rattle.inputs.specs.Maps.{Stray, TooManyAbsent, NthAbsent}
 
 abbrev pub benchRules : ℕ → ℕ → ℕ → Map → List ℕ → List ℕ → List Rule
 benchRules m k b map s bench =

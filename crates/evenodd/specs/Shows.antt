@@ -13,13 +13,13 @@ use denote.Ref.{RefT, now}
 use lib.ListN.{length, take, drop}
 use Rattle.parity.specs.Shape.{columnLength, stripeLength, benchLength}
 use Rattle.parity.specs.Presence.{present}
-use Rattle.evenodd.specs.declared.maps.Map.{Map}
+use Rattle.inputs.specs.declared.maps.Map.{Map}
 use Rattle.evenodd.specs.declared.showing.Place.{Place}
 use Rattle.evenodd.specs.declared.showing.Place.the-variants.{InStripe, InBench, Refused}
-use Rattle.evenodd.specs.declared.shapes.Refusal.the-variants.{StripeLength, BenchLength, StrayColumn, NoSuchColumn, Ambiguous}
-use Rattle.evenodd.specs.Refusals.{Verdict, pass, refuse, Rule, Gives}
-use Rattle.evenodd.specs.Shapes.{shapeRules}
-use Rattle.evenodd.specs.Maps.{Stray, TooManyAbsent, absentBelow}
+use Rattle.inputs.specs.declared.shapes.Refusal.the-variants.{StripeLength, BenchLength, StrayColumn, NoSuchColumn, Ambiguous}
+use Rattle.inputs.specs.Refusals.{Verdict, pass, refuse, Rule, Gives}
+use Rattle.inputs.specs.Shapes.{shapeRules}
+use Rattle.inputs.specs.Maps.{Stray, TooManyAbsent, absentBelow}
 
 abbrev pub laterRules : ℕ → ℕ → ℕ → Map → List ℕ → List ℕ → ℕ → List Rule
 laterRules m k b map s bench column =

@@ -1,8 +1,8 @@
 // Mend.
-use crate::lent::judge_stripe;
-use crate::shapes::Judged;
-use crate::shapes::Refusal;
 use blame::Suspect;
+use inputs::Judged;
+use inputs::Refusal;
+use inputs::judge_stripe;
 use lines::Grid;
 ghost use Rattle.evenodd.specs.Mends.{Mends};
 

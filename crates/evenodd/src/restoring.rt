@@ -1,8 +1,8 @@
 // Restore.
-use crate::lent::judge_lent;
-use crate::maps::Map;
-use crate::shapes::Judged;
-use crate::shapes::Refusal;
+use inputs::Judged;
+use inputs::Map;
+use inputs::Refusal;
+use inputs::judge_lent;
 use lines::Grid;
 ghost use Rattle.evenodd.specs.Restores.{Restores};
 

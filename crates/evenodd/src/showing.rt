@@ -1,8 +1,8 @@
 // Showing a column: where it lies, and the part itself.
-use crate::lent::judge_lent;
-use crate::maps::Map;
-use crate::shapes::Judged;
-use crate::shapes::Refusal;
+use inputs::Judged;
+use inputs::Map;
+use inputs::Refusal;
+use inputs::judge_lent;
 ghost use Rattle.evenodd.specs.Shows.{Places, Shows};
 
 // Where a column is shown: from a byte on, so many bytes, in the stripe or in the bench; or why not.

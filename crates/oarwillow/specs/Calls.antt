@@ -6,11 +6,11 @@ use mathlib.Core.List.{List}
 use Prim.Native.Nat.{ℕ}
 use Rattle.evenodd.specs.declared.checking.Checked.{Checked}
 use Rattle.evenodd.specs.declared.encoding.Encoded.{Encoded}
-use Rattle.evenodd.specs.declared.maps.Map.{Map}
+use Rattle.inputs.specs.declared.maps.Map.{Map}
 use Rattle.evenodd.specs.declared.mending.Mended.{Mended}
 use Rattle.evenodd.specs.declared.restoring.Restored.{Restored}
 use Rattle.evenodd.specs.declared.showing.Place.{Place}
-use Rattle.evenodd.specs.Maps.{OfBytes, AsBytes}
+use Rattle.inputs.specs.Maps.{OfBytes, AsBytes}
 use Rattle.evenodd.specs.Encodes.{Encodes, encoded}
 use Rattle.evenodd.specs.Checks.{Checks, rowsOf, diagonalsOf}
 use Rattle.evenodd.specs.Checks as checks

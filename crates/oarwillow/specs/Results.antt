@@ -7,7 +7,7 @@ use Rattle.evenodd.specs.declared.restoring.Restored.{Restored}
 use Rattle.evenodd.specs.declared.restoring.Restored.the-variants as restored
 use Rattle.evenodd.specs.declared.showing.Place.{Place}
 use Rattle.evenodd.specs.declared.showing.Place.the-variants as place
-use Rattle.evenodd.specs.Refusals.{Verdict, pass, refuse, numberOf}
+use Rattle.inputs.specs.Refusals.{Verdict, pass, refuse, numberOf}
 
 abbrev pub status : Verdict → ℕ
 status pass = 0

@@ -8,8 +8,8 @@ use Rattle.parity.specs.Stripe.{Stripe}
 use Rattle.blame.specs.declared.Suspect.the-variants.{Nothing, Column, Nobody}
 use Rattle.repair.specs.Patches.{Patches}
 use Rattle.evenodd.specs.Mends.{blameRules}
-use Rattle.evenodd.specs.Tests.{stripeTests}
-use Rattle.evenodd.proofs.Tests.{told-refused, Numbers, stripe-good}
+use Rattle.inputs.specs.Tests.{stripeTests}
+use Rattle.inputs.proofs.Tests.{told-refused, Numbers, stripe-good}
 use Rattle.evenodd.proofs.Mended.{mend-answer}
 use Rattle.evenodd.proofs.mending.mend.Statement.{statement}
 use Rattle.evenodd.proofs.mending.mend.Tie as tie

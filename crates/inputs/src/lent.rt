@@ -1,0 +1,37 @@
+// The tests that the calls share: on the numbers, on what is lent, and on the map.
+use crate::maps::Map;
+use crate::shapes::Judged;
+use crate::shapes::Refusal;
+use crate::shapes::judge;
+ghost use Rattle.inputs.specs.Tests.{JudgesStripe, JudgesLent};
+
+// Judges three numbers, and the length of a stripe.
+pub fn judge_stripe(m: usize, k: usize, b: usize, length: usize) -> Judged
+    ensures { λ r. ⌜ JudgesStripe m k b length r ⌝ }
+{
+    let judged = judge(m, k, b);
+    let Judged::Good { column } = judged else {
+        return judged;
+    };
+    if length != (k + 2) * column {
+        return Judged::Refused(Refusal::StripeLength);
+    }
+    judged
+}
+
+// Judges three numbers, the lengths of a stripe and of a bench, and that no place past the columns is present.
+pub fn judge_lent(m: usize, k: usize, b: usize, map: Map, length: usize, held: usize) -> Judged
+    ensures { λ r. ⌜ JudgesLent m k b (map .places) length held r ⌝ }
+{
+    let judged = judge_stripe(m, k, b, length);
+    let Judged::Good { column } = judged else {
+        return judged;
+    };
+    if held != 2 * column {
+        return Judged::Refused(Refusal::BenchLength);
+    }
+    if map.strays(k + 2) {
+        return Judged::Refused(Refusal::StrayColumn);
+    }
+    judged
+}
