@@ -27,20 +27,11 @@ use Rattle.parity.proofs.Fits.{rewritten, rewritten-byte, rewritten-other, fits
 use Rattle.blame.specs.declared.Suspect.{Suspect}
 use Rattle.blame.specs.declared.Suspect.the-variants.{Nothing, Column, Nobody}
 use Rattle.repair.specs.Patches.{Patches}
-use Rattle.evenodd.specs.declared.mending.Mended.{Mended}
-use Rattle.evenodd.specs.declared.mending.Mended.the-variants as mended
-use Rattle.inputs.specs.declared.shapes.Refusal.the-variants.{Unmendable}
 use Rattle.inputs.specs.Refusals.{Verdict, Gives}
 use Rattle.inputs.specs.Shapes.{stripeRules}
-use Rattle.evenodd.specs.Mends.{blameRules, mendRules, Mends}
+use Rattle.evenodd.specs.Mends.{blameRules, mendRules, Mends, mendedBy}
 use Rattle.inputs.proofs.Rules.{gives-first, gives-next, gives-after}
 use Rattle.inputs.proofs.Stripe.{stripe-passed}
-
--- the answer that each suspect brings
-abbrev pub mendedBy : Suspect → Mended
-mendedBy Nothing = mended.Intact
-mendedBy (Column u) = mended.Column u
-mendedBy Nobody = mended.Refused Unmendable
 
 module _ (m k b : ℕ) (h : Shape m k b) (s : List ℕ) where
   -- what can't be fitted with any column left out can't be mended

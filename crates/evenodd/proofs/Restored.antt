@@ -26,18 +26,16 @@ use Rattle.marks.specs.Absent.{absentBelow, NthAbsent, Counts}
 use Rattle.marks.proofs.Absent.{absences-below, below-under, others-present}
 use Rattle.repair.specs.Fills.{Gapped, Filled, Fills}
 use Rattle.inputs.specs.declared.maps.Map.{Map}
-use Rattle.evenodd.specs.declared.restoring.Restored.the-variants.{Columns, Refused}
-use Rattle.inputs.specs.declared.shapes.Judged.{Judged}
-use Rattle.inputs.specs.declared.shapes.Judged.the-variants as judged
+use Rattle.evenodd.specs.declared.restoring.Restored.the-variants.{Refused}
+use Rattle.inputs.specs.declared.lent.Given.{Given}
+use Rattle.inputs.specs.declared.lent.Given.the-variants as given
 use Rattle.inputs.specs.declared.shapes.Refusal.{Refusal}
-use Rattle.inputs.specs.declared.shapes.Refusal.the-variants.{Ambiguous, Contradicted}
+use Rattle.inputs.specs.declared.shapes.Refusal.the-variants.{Contradicted}
 use Rattle.inputs.specs.Refusals.{Verdict, Rule, Gives}
-use Rattle.inputs.specs.Shapes.{refusalOf}
-use Rattle.inputs.specs.Maps.{TooManyAbsent}
-use Rattle.inputs.specs.Tests.{stripeTests, lentTests, JudgesLent}
-use Rattle.evenodd.specs.Restores.{restoreRules, Benched, RestoredFrom, Restores}
+use Rattle.inputs.specs.Tests.{stripeTests, lentTests, fewTests, JudgesGaps, refusalOf}
+use Rattle.evenodd.specs.Restores.{restoreRules, Benched, RestoredFrom, Restores, restoredBy}
 use Rattle.inputs.proofs.Rules.{gives-first, gives-next, gives-after}
-use Rattle.inputs.proofs.Tests.{Lent, told-refused}
+use Rattle.inputs.proofs.Tests.{FewAbsent, gaps-refused}
 
 module _ (m k b : ℕ) (h : Shape m k b) (map : List Bool) (s : List ℕ) (st : Stripe m k b s) (n first second : ℕ)
     (counted : n ≡ absentBelow (k + 2) map) (lowest : NthAbsent (k + 2) 0 map first) (other : NthAbsent (k + 2) 1 map second) where
@@ -127,64 +125,60 @@ order n map gaps counts e =
     (λ q. absurd (let z : gaps .first ≡ gaps .second = omega arith in let y = ap (λ t. absentBelow t map) z in omega (arith, low .2, high .2)))) in
     (below, high .0)
 
--- restore's rules after the tests that it shares with show
+-- restore's rule after the tests
 abbrev lastRules : ℕ → ℕ → ℕ → List Bool → List ℕ → List Rule
-lastRules m k b map s =
-    record { condition = TooManyAbsent k map; refusal = Ambiguous }
-    ∷ record { condition = (v : List ℕ) → Valid m k b v → Agrees m k b map s v → ⊥; refusal = Contradicted }
-    ∷ []
+lastRules m k b map s = record { condition = (v : List ℕ) → Valid m k b v → Agrees m k b map s v → ⊥; refusal = Contradicted } ∷ []
 
 module _ (m k b : ℕ) (map : Map) (s before : List ℕ) where
-  pub restore-refused : (j : Judged) {f g : Refusal} → JudgesLent m k b (map .places) (length s) (length before) j → j ≡ judged.Refused f → g ≡ refusalOf j
+  pub restore-refused : (j : Given) {f g : Refusal} → JudgesGaps m k b (map .places) (length s) (length before) j → j ≡ given.Refused f → g ≡ refusalOf j
       → Restores m k b map s before before (Refused g)
-  restore-refused j h e q = record {
-    told = told-refused (stripeTests m k b (length s) ++ lentTests m k b (map .places) (length before)) (lastRules m k b (map .places) s) j (h .told) e q;
-    left = refl;
-  }
+  restore-refused j h e q = record { told = gaps-refused m k b (length s) (map .places) (length before) (lastRules m k b (map .places) s) j h e q; left = refl }
 
-  module _ {c : ℕ} (lent : Lent m k b (length s) (map .places) (length before) c) (gaps : Gaps) (counts : Counts (k + 2) (map .places) gaps) where
+  module _ {c : ℕ} {gaps : Gaps} (known : FewAbsent m k b (length s) (map .places) (length before) c gaps) where
     rules : {v : Verdict} → Gives (lastRules m k b (map .places) s) v → Gives (restoreRules m k b map s before) v
-    rules g = gives-after (stripeTests m k b (length s) ++ lentTests m k b (map .places) (length before)) (lastRules m k b (map .places) s) _ (lent .tests) g
+    rules g =
+        gives-after ((stripeTests m k b (length s) ++ lentTests m k b (map .places) (length before)) ++ fewTests k (map .places)) (lastRules m k b (map .places) s) _ (known .tests) g
 
-    pub restore-ambiguous : 2 < gaps .count → Restores m k b map s before before (Refused Ambiguous)
-    restore-ambiguous l = record { told = rules (gives-first (let e = absences-below k (map .places) in omega (arith, counts .count))); left = refl }
+    shape : Shape m k b
+    shape = known .lent .numbers .shape
 
-    module _ (few : gaps .count ≤ 2) where
-      pub restore-gapped : Gapped (record { m = m; b = b; column = c }) k gaps s before
-      restore-gapped = record {
-        shape = lent .numbers .shape;
-        column = lent .numbers .column;
-        stripe = lent .numbers .stripe;
-        held = lent .held;
-        few = few;
-        one = λ e. counts .first .found (omega (arith, counts .count)) .0;
-        two = order (k + 2) (map .places) gaps counts;
+    counts : Counts (k + 2) (map .places) gaps
+    counts = known .counts
+
+    few : gaps .count ≤ 2
+    few = let e = absences-below k (map .places) in omega (arith, counts .count, known .few)
+
+    pub restore-gapped : Gapped (record { m = m; b = b; column = c }) k gaps s before
+    restore-gapped = record {
+      shape = shape;
+      column = known .lent .numbers .column;
+      stripe = known .lent .numbers .stripe;
+      held = known .lent .held;
+      few = few;
+      one = λ e. counts .first .found (omega (arith, counts .count)) .0;
+      two = order (k + 2) (map .places) gaps counts;
+    }
+
+    module _ (st : Stripe m k b s) (after : List ℕ) where
+      from-filled : Filled m k b gaps s before after → RestoredFrom m k b (map .places) s before after (gaps .count) (gaps .first) (gaps .second)
+      from-filled f = by-count (ℕ-discrete (gaps .count) 2) (ℕ-discrete (gaps .count) 1)
+        where
+          by-count : Dec (gaps .count ≡ 2) → Dec (gaps .count ≡ 1) → RestoredFrom m k b (map .places) s before after (gaps .count) (gaps .first) (gaps .second)
+          by-count (yes e) _ =
+              restored-two m k b shape (map .places) s st (gaps .count) (gaps .first) (gaps .second) (counts .count) (counts .first) (counts .second) e before after (f .two e .size) (f .two e .both)
+          by-count (no _) (yes e) =
+              restored-one m k b shape (map .places) s st (gaps .count) (gaps .first) (gaps .second) (counts .count) (counts .first) (counts .second) e (f .fits (omega arith)) before after (f .one e .size) (f .one e .first) (f .one e .second)
+          by-count (no n) (no o) =
+              let most = few in
+              let z : gaps .count ≡ 0 = by-cases (decLt 0 (gaps .count)) (λ l. absurd (by-cases (decLt 1 (gaps .count)) (λ c. n (omega arith)) (λ c. o (omega arith)))) (λ l. omega arith) in
+              rw (f .none z) (restored-none m k b shape (map .places) s st (gaps .count) (gaps .first) (gaps .second) (counts .count) (counts .first) (counts .second) z (f .fits (omega arith)) before)
+
+      pub restore-told : (filled : Bool) → Fills m k b gaps s before after filled → Restores m k b map s before after (restoredBy gaps filled)
+      restore-told true f =
+          let r = from-filled f in
+          record { told = rules (gives-next (λ c. c (r .stripe) (r .valid) (r .agrees)) refl); left = r }
+      restore-told false f = record {
+        told = rules (gives-first
+            (contradicted m k b shape (map .places) s st (gaps .count) (gaps .first) (gaps .second) (counts .count) (counts .first) (counts .second) (f .0) (f .1)));
+        left = f .2;
       }
-
-      not-many : TooManyAbsent k (map .places) → ⊥
-      not-many l = let e = absences-below k (map .places) in omega (arith, counts .count)
-
-      module _ (st : Stripe m k b s) (after : List ℕ) where
-        pub restore-contradicted : Fills m k b gaps s before after false → Restores m k b map s before after (Refused Contradicted)
-        restore-contradicted f = record {
-          told = rules (gives-next not-many (gives-first
-              (contradicted m k b (lent .numbers .shape) (map .places) s st (gaps .count) (gaps .first) (gaps .second) (counts .count) (counts .first) (counts .second) (f .0) (f .1))));
-          left = f .2;
-        }
-
-        from-filled : Filled m k b gaps s before after → RestoredFrom m k b (map .places) s before after (gaps .count) (gaps .first) (gaps .second)
-        from-filled f = by-count (ℕ-discrete (gaps .count) 2) (ℕ-discrete (gaps .count) 1)
-          where
-            by-count : Dec (gaps .count ≡ 2) → Dec (gaps .count ≡ 1) → RestoredFrom m k b (map .places) s before after (gaps .count) (gaps .first) (gaps .second)
-            by-count (yes e) _ =
-                restored-two m k b (lent .numbers .shape) (map .places) s st (gaps .count) (gaps .first) (gaps .second) (counts .count) (counts .first) (counts .second) e before after (f .two e .size) (f .two e .both)
-            by-count (no _) (yes e) =
-                restored-one m k b (lent .numbers .shape) (map .places) s st (gaps .count) (gaps .first) (gaps .second) (counts .count) (counts .first) (counts .second) e (f .fits (omega arith)) before after (f .one e .size) (f .one e .first) (f .one e .second)
-            by-count (no n) (no o) =
-                let z : gaps .count ≡ 0 = by-cases (decLt 0 (gaps .count)) (λ l. absurd (by-cases (decLt 1 (gaps .count)) (λ c. n (omega arith)) (λ c. o (omega arith)))) (λ l. omega arith) in
-                rw (f .none z) (restored-none m k b (lent .numbers .shape) (map .places) s st (gaps .count) (gaps .first) (gaps .second) (counts .count) (counts .first) (counts .second) z (f .fits (omega arith)) before)
-
-        pub restore-columns : Filled m k b gaps s before after → Restores m k b map s before after (Columns (gaps .count) (gaps .first) (gaps .second))
-        restore-columns f =
-            let r = from-filled f in
-            record { told = rules (gives-next not-many (gives-next (λ c. c (r .stripe) (r .valid) (r .agrees)) refl)); left = r }

@@ -1,13 +1,9 @@
--- Each promise determines its result: two results that meet it are equal. Each statement is a type, which proofs/Determined inhabits.
--- Of a part that show hands out, the place and the bytes are determined: `SamePart`. The name under which the logic follows a reference is no part
--- of the answer.
---   PlacesOne, ShowsOne, EncodesOne, ChecksOne, RestoresOne, MendsOne    the promise of each call
---   PlacesUnread, ShowsUnread    no byte of stripe or bench alters where a column is shown: their lengths alone are asked
+-- Each promise determines its result: two results that meet it are equal. Each statement is a type, which proofs/Outcomes inhabits.
+--   EncodesOne, ChecksOne, RestoresOne, MendsOne    the promise of each call
 --   RestoresUnread               what stands in an absent column's place alters neither restore's answer nor the bench
 use mathlib.Core.Path.{_≡_}
 use mathlib.Core.List.{List}
 use Prim.Native.Nat.{ℕ}
-use denote.Ref.{RefT, now}
 use lib.ListN.{length}
 use Rattle.parity.specs.Presence.{Agrees}
 use Rattle.inputs.specs.declared.maps.Map.{Map}
@@ -15,34 +11,10 @@ use Rattle.evenodd.specs.declared.checking.Checked.{Checked}
 use Rattle.evenodd.specs.declared.encoding.Encoded.{Encoded}
 use Rattle.evenodd.specs.declared.mending.Mended.{Mended}
 use Rattle.evenodd.specs.declared.restoring.Restored.{Restored}
-use Rattle.evenodd.specs.declared.showing.Place.{Place}
-use Rattle.evenodd.specs.Shows.{Places, Shows}
 use Rattle.evenodd.specs.Encodes.{Encodes}
 use Rattle.evenodd.specs.Checks.{Checks}
 use Rattle.evenodd.specs.Restores.{Restores}
 use Rattle.evenodd.specs.Mends.{Mends}
-
-unfoldable pub PlacesOne : Type 0
-PlacesOne = (m k b : ℕ) (map : Map) (s bench : List ℕ) (column : ℕ) (r q : Place)
-    → Places m k b map s bench column r → Places m k b map s bench column q → r ≡ q
-
-pub record SamePart (r q : RefT (List ℕ)) : Type 0 where
-  pub block : r .ptr .0 ≡ q .ptr .0
-  pub place : r .ptr .1 ≡ q .ptr .1
-  pub bytes : now r ≡ now q
-
-unfoldable pub ShowsOne : Type 0
-ShowsOne = (m k b : ℕ) (map : Map) (s bench : RefT (List ℕ)) (column : ℕ) (r q : RefT (List ℕ))
-    → Shows m k b map s bench column r → Shows m k b map s bench column q → SamePart r q
-
-unfoldable pub PlacesUnread : Type 0
-PlacesUnread = (m k b : ℕ) (map : Map) (s bench other spare : List ℕ) (column : ℕ) (r : Place)
-    → Places m k b map s bench column r → length other ≡ length s → length spare ≡ length bench → Places m k b map other spare column r
-
-unfoldable pub ShowsUnread : Type 0
-ShowsUnread = (m k b : ℕ) (map : Map) (s bench other spare : RefT (List ℕ)) (column : ℕ) (r q : RefT (List ℕ))
-    → (x : Shows m k b map s bench column r) (y : Shows m k b map other spare column q)
-    → length (now other) ≡ length (now s) → length (now spare) ≡ length (now bench) → x .answer ≡ y .answer
 
 unfoldable pub EncodesOne : Type 0
 EncodesOne = (m k b : ℕ) (s x y : List ℕ) (r q : Encoded) → Encodes m k b s x r → Encodes m k b s y q → (r ≡ q) × (x ≡ y)

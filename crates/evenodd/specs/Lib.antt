@@ -1,5 +1,4 @@
 -- What each call promises: its refusals in order, and its answer.
-pub mod Shows
 pub mod Encodes
 pub mod Checks
 pub mod Restores

@@ -2,12 +2,15 @@
 --   mendRules     its refusals, in order: 1, 2, 6; blameRules: the last
 --   Mends         intact: the stripe is valid and nothing is written; mended: the stripe is now a valid one that differed in exactly that
 --                 column; refused: nothing is written
+--   mendedBy      the answer that each suspect brings
 use mathlib.Core.Path.{_≡_}
 use mathlib.Core.List.{List, [], _∷_, _++_}
 use Prim.Native.Nat.{ℕ, _+_, _≤_, _<_}
 use lib.Dec.{eqb}
 use Rattle.parity.specs.Stripe.{Valid}
 use Rattle.parity.specs.Presence.{differing, DifferIn}
+use Rattle.blame.specs.declared.Suspect.{Suspect}
+use Rattle.blame.specs.declared.Suspect.the-variants.{Nothing, Column, Nobody}
 use Rattle.evenodd.specs.declared.mending.Mended.{Mended}
 use Rattle.evenodd.specs.declared.mending.Mended.the-variants as mended
 use Rattle.inputs.specs.declared.shapes.Refusal.the-variants.{Unmendable}
@@ -39,3 +42,8 @@ Rewritten m k b before after (mended.Refused r) = after ≡ before
 pub record Mends (m k b : ℕ) (before after : List ℕ) (r : Mended) : Type 0 where
   pub told : Gives (mendRules m k b before) (verdictOf r)
   pub rewritten : Rewritten m k b before after r
+
+abbrev pub mendedBy : Suspect → Mended
+mendedBy Nothing = mended.Intact
+mendedBy (Column u) = mended.Column u
+mendedBy Nobody = mended.Refused Unmendable

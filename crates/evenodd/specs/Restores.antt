@@ -2,9 +2,10 @@
 --   restoreRules   its refusals, in order: 1, 2, 3, 9, 4, 5; benchRules: those after the shape's
 --   Benched        the bench holds columns `first` and `second` of v; of n columns restored, halves that hold none are as they were
 --   Restores       how many columns are absent and their numbers, 129 for none, and the bench is that of a valid stripe that agrees
+--   restoredBy     the answer where the gaps were filled, and where they could not be
 use mathlib.Core.Path.{_≡_}
 use mathlib.Core.Logic.{_≢_}
-use mathlib.Core.Bool.{Bool, cond}
+use mathlib.Core.Bool.{Bool, true, false, cond}
 use mathlib.Core.List.{List, [], _∷_, _++_}
 use Prim.Native.Nat.{ℕ, _+_, _-_, _<_}
 use lib.Dec.{ltb}
@@ -12,6 +13,7 @@ use lib.ListN.{length}
 use Rattle.parity.specs.Shape.{stripeLength, benchLength}
 use Rattle.parity.specs.Stripe.{byte, Valid}
 use Rattle.parity.specs.Presence.{absences, Agrees}
+use Rattle.marks.specs.declared.Gaps.{Gaps}
 use Rattle.inputs.specs.declared.maps.Map.{Map}
 use Rattle.evenodd.specs.declared.restoring.Restored.{Restored}
 use Rattle.evenodd.specs.declared.restoring.Restored.the-variants.{Columns, Refused}
@@ -58,3 +60,7 @@ Left m k b map s before after (Refused r) = after ≡ before
 pub record Restores (m k b : ℕ) (map : Map) (s before after : List ℕ) (r : Restored) : Type 0 where
   pub told : Gives (restoreRules m k b map s before) (restored r)
   pub left : Left m k b (map .places) s before after r
+
+abbrev pub restoredBy : Gaps → Bool → Restored
+restoredBy gaps true = Columns (gaps .count) (gaps .first) (gaps .second)
+restoredBy gaps false = Refused Contradicted

@@ -4,7 +4,6 @@ mod checking;
 mod encoding;
 mod mending;
 mod restoring;
-mod showing;
 
 pub use checking::Checked;
 pub use checking::check;

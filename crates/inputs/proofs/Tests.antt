@@ -2,20 +2,27 @@
 --   passed-on, told-refused  a refusal is that of every list of rules that begins with the tests
 --   told-passed              a good shape passes them
 --   Numbers, stripe-good     what is known where the numbers and the stripe's length are right
+--   FewAbsent, gaps-good, gaps-refused   and where at most two columns are absent; where not, the refusal
 --   Lent, lent-good          and where the bench's length and the map are right too
 use mathlib.Core.Path.{_≡_, sym, ap, _∙_}
 use mathlib.Core.Bool.{Bool}
 use mathlib.Core.List.{List, _++_}
-use Prim.Native.Nat.{ℕ, _+_, _*_}
+use Prim.Native.Nat.{ℕ, _+_, _*_, _≤_}
 use native.Mathlib.Omega.{arith}
 use Rattle.parity.specs.Shape.{Shape, columnLength, stripeLength, benchLength}
+use Rattle.parity.specs.Presence.{absences}
+use Rattle.marks.specs.declared.Gaps.{Gaps}
+use Rattle.marks.specs.Absent.{Counts}
+use Rattle.inputs.specs.declared.lent.Given.{Given}
+use Rattle.inputs.specs.declared.lent.Given.the-variants as given
 use Rattle.inputs.specs.declared.shapes.Judged.{Judged}
 use Rattle.inputs.specs.declared.shapes.Judged.the-variants.{Good, Refused}
 use Rattle.inputs.specs.declared.shapes.Refusal.{Refusal}
 use Rattle.inputs.specs.Refusals.{pass, refuse, Rule, Gives}
 use Rattle.inputs.specs.Shapes.{judged, goodColumn, refusalOf}
 use Rattle.inputs.specs.Maps.{Stray}
-use Rattle.inputs.specs.Tests.{lengthTest, stripeTests, JudgesStripe, lentTests, JudgesLent}
+use Rattle.inputs.specs.Tests as tests
+use Rattle.inputs.specs.Tests.{lengthTest, stripeTests, JudgesStripe, lentTests, JudgesLent, fewTests, JudgesGaps}
 use Rattle.inputs.proofs.Rules.{gives-refused, gives-passed, passed-first, equal-of}
 use Rattle.inputs.proofs.Shape.{passed-shape}
 
@@ -73,3 +80,28 @@ module _ (m k b n : ℕ) where
           held = equal-of _ _ held;
           clear = passed-first rest .0;
         }
+
+    -- where at most two columns are absent, all of that is known, and which they are
+    pub record FewAbsent (c : ℕ) (gaps : Gaps) : Type 0 where
+      pub lent : Lent c
+      pub tests : Gives ((stripeTests m k b n ++ lentTests m k b map w) ++ fewTests k map) pass
+      pub few : absences k map ≤ 2
+      pub counts : Counts (k + 2) map gaps
+
+    pub gaps-good : (j : Given) {c : ℕ} {gaps : Gaps} → JudgesGaps m k b map n w j → j ≡ given.Good c gaps → FewAbsent c gaps
+    gaps-good (given.Good d g) {c} {gaps} h e =
+        let column : c ≡ d = cc in
+        let same : gaps ≡ g = cc in
+        let (lent, few) = gives-passed (stripeTests m k b n ++ lentTests m k b map w) (fewTests k map) (h .told) in
+        record {
+          lent = lent-good (Good d) (record { told = lent; column = h .good .0 }) (ap Good (sym column));
+          tests = h .told;
+          few = let (not-many, _) = passed-first few in omega arith;
+          counts = rw same (h .good .1);
+        }
+    gaps-good (given.Refused f) h e = absurd (let z : _≡_ {A = ℕ} 0 1 = cc in omega arith)
+
+    pub gaps-refused : (more : List Rule) (j : Given) {f g : Refusal} → JudgesGaps m k b map n w j → j ≡ given.Refused f → g ≡ tests.refusalOf j
+        → Gives (((stripeTests m k b n ++ lentTests m k b map w) ++ fewTests k map) ++ more) (refuse g)
+    gaps-refused more (given.Good d x) h e q = absurd (let z : _≡_ {A = ℕ} 0 1 = cc in omega arith)
+    gaps-refused more (given.Refused f) h e q = rw q (gives-refused ((stripeTests m k b n ++ lentTests m k b map w) ++ fewTests k map) more f (h .told))

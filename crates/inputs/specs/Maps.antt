@@ -16,7 +16,7 @@ use mathlib.Core.Logic.{_↔_}
 use mathlib.Core.List.{List, [], _∷_}
 use Prim.Native.Nat.{ℕ, _+_, _≤_, _<_}
 use lib.Dec.{eqb}
-use lib.ListN.{length, getD}
+use lib.ListN.{length}
 use Rattle.parity.specs.Presence.{present, absences}
 use Rattle.marks.specs.declared.Gaps.{Gaps}
 use Rattle.marks.specs.Absent.{PresentFrom, Counts}

@@ -3,7 +3,27 @@ use crate::maps::Map;
 use crate::shapes::Judged;
 use crate::shapes::Refusal;
 use crate::shapes::judge;
-ghost use Rattle.inputs.specs.Tests.{JudgesStripe, JudgesLent};
+use marks::Gaps;
+ghost use mathlib.Core.Path.{_≡_};
+ghost use Rattle.inputs.specs.Tests.{JudgesStripe, JudgesLent, JudgesGaps, refusalOf};
+
+// What is found where at most two columns are absent: the bytes of a column, and the gaps; or why not.
+pub enum Given {
+    Good { column: usize, gaps: Gaps },
+    Refused(Refusal),
+}
+
+impl Given {
+    // The refusal that is carried. What is good carries none; of it the answer is Shape.
+    pub fn refusal(self) -> Refusal
+        ensures { λ r. ⌜ r ≡ refusalOf self ⌝ }
+    {
+        match self {
+            Given::Refused(r) => r,
+            Given::Good { column: _, gaps: _ } => Refusal::Shape,
+        }
+    }
+}
 
 // Judges three numbers, and the length of a stripe.
 pub fn judge_stripe(m: usize, k: usize, b: usize, length: usize) -> Judged
@@ -34,4 +54,19 @@ pub fn judge_lent(m: usize, k: usize, b: usize, map: Map, length: usize, held: u
         return Judged::Refused(Refusal::StrayColumn);
     }
     judged
+}
+
+// Judges the same, and that at most two columns are absent.
+pub fn judge_gaps(m: usize, k: usize, b: usize, map: Map, length: usize, held: usize) -> Given
+    ensures { λ r. ⌜ JudgesGaps m k b (map .places) length held r ⌝ }
+{
+    let judged = judge_lent(m, k, b, map, length, held);
+    let Judged::Good { column } = judged else {
+        return Given::Refused(judged.refusal());
+    };
+    let gaps = map.gaps(k + 2);
+    if 2 < gaps.count {
+        return Given::Refused(Refusal::Ambiguous);
+    }
+    Given::Good { column, gaps }
 }

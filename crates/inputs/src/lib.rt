@@ -3,6 +3,8 @@ mod lent;
 mod maps;
 mod shapes;
 
+pub use lent::Given;
+pub use lent::judge_gaps;
 pub use lent::judge_lent;
 pub use lent::judge_stripe;
 pub use maps::Map;

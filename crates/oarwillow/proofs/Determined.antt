@@ -2,8 +2,9 @@
 -- and the results are that answer's.
 use Rattle.inputs.specs.Determined.{OfBytesOne, AsBytesOne}
 use Rattle.inputs.proofs.Determined.{of-bytes-one, as-bytes-one}
-use Rattle.evenodd.specs.Determined.{EncodesOne, ChecksOne, RestoresOne, MendsOne, PlacesOne}
-use Rattle.evenodd.proofs.Determined.{places-one}
+use Rattle.showing.specs.Determined.{PlacesOne}
+use Rattle.showing.proofs.Determined.{places-one}
+use Rattle.evenodd.specs.Determined.{EncodesOne, ChecksOne, RestoresOne, MendsOne}
 use Rattle.evenodd.proofs.Outcomes.{encodes-one, checks-one, restores-one, mends-one}
 use Rattle.image.specs.Determined.{ReadsOne}
 use Rattle.image.proofs.Determined.{reads-one}

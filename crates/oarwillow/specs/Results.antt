@@ -5,8 +5,8 @@
 use Prim.Native.Nat.{ℕ}
 use Rattle.evenodd.specs.declared.restoring.Restored.{Restored}
 use Rattle.evenodd.specs.declared.restoring.Restored.the-variants as restored
-use Rattle.evenodd.specs.declared.showing.Place.{Place}
-use Rattle.evenodd.specs.declared.showing.Place.the-variants as place
+use Rattle.showing.specs.declared.Place.{Place}
+use Rattle.showing.specs.declared.Place.the-variants as place
 use Rattle.inputs.specs.Refusals.{Verdict, pass, refuse, numberOf}
 
 abbrev pub status : Verdict → ℕ

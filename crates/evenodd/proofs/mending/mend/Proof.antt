@@ -1,13 +1,11 @@
 -- `evenodd::mending::mend` meets its contract: the tests, and what mend_suspect found and left.
-use mathlib.Core.Path.{refl, subst}
+use mathlib.Core.Path.{refl, sym, subst}
 use lib.ListN.{length}
 use native.Mathlib.Omega.{arith}
 use denote.Ref.{now}
 use borrow.Author.Needs.{needs}
 use Rattle.parity.specs.Stripe.{Stripe}
-use Rattle.blame.specs.declared.Suspect.the-variants.{Nothing, Column, Nobody}
-use Rattle.repair.specs.Patches.{Patches}
-use Rattle.evenodd.specs.Mends.{blameRules}
+use Rattle.evenodd.specs.Mends.{blameRules, Mends}
 use Rattle.inputs.specs.Tests.{stripeTests}
 use Rattle.inputs.proofs.Tests.{told-refused, Numbers, stripe-good}
 use Rattle.evenodd.proofs.Mended.{mend-answer}
@@ -47,47 +45,20 @@ returns c =
 mend-suspect-requires : tie.Need-mend-suspect-requires
 mend-suspect-requires c κs = let n = good (c .before) in record { shape = n .shape; column = n .column; stripe = n .stripe }
 
-enum-told-2 : tie.Need-enum-told-2
-enum-told-2 c = c .match2 .keys1
-
-enum-told-3 : tie.Need-enum-told-3
-enum-told-3 c = c .match2 .keys2
-
-enum-known-u : tie.Need-enum-known-u
-enum-known-u c = c .match2 .keys3
+told-requires : tie.Need-told-requires
+told-requires c κs = tt
 
 same-length : tie.Need-same-length
 same-length c = search needs
 
 returns-2 : tie.Need-returns-2
 returns-2 c =
-    let r = c .before .before .before .before in
+    let r = c .before .before .before in
     let z = r .before .before in
     let a = z .before .before .before .before .before .args in
-    mend-answer (a .m) (a .k) (a .b) (now (a .stripe)) (r .mend-suspect .last .1 .1 .0) (good z .shape) (stripe z) Nothing
-    (subst (Patches (a .m) (a .k) (a .b) (now (a .stripe)) (r .mend-suspect .last .1 .1 .0)) (c .enum-told2 .given .1) (r .mend-suspect .ensures))
-
-same-length-2 : tie.Need-same-length-2
-same-length-2 c = search needs
-
-returns-3 : tie.Need-returns-3
-returns-3 c =
-    let r = c .before .before .before .before in
-    let z = r .before .before in
-    let a = z .before .before .before .before .before .args in
-    mend-answer (a .m) (a .k) (a .b) (now (a .stripe)) (r .mend-suspect .last .1 .1 .0) (good z .shape) (stripe z) Nobody
-    (subst (Patches (a .m) (a .k) (a .b) (now (a .stripe)) (r .mend-suspect .last .1 .1 .0)) (c .enum-told3 .given .1) (r .mend-suspect .ensures))
-
-same-length-3 : tie.Need-same-length-3
-same-length-3 c = search needs
-
-returns-4 : tie.Need-returns-4
-returns-4 c =
-    let r = c .before .before .before .before .before in
-    let z = r .before .before in
-    let a = z .before .before .before .before .before .args in
-    mend-answer (a .m) (a .k) (a .b) (now (a .stripe)) (r .mend-suspect .last .1 .1 .0) (good z .shape) (stripe z) (Column (c .before .u .given .0 .0))
-    (subst (Patches (a .m) (a .k) (a .b) (now (a .stripe)) (r .mend-suspect .last .1 .1 .0)) (c .before .u .given .1) (r .mend-suspect .ensures))
+    let after = r .mend-suspect .last .1 .1 .0 in
+    subst (Mends (a .m) (a .k) (a .b) (now (a .stripe)) after) (sym (c .told .ensures))
+    (mend-answer (a .m) (a .k) (a .b) (now (a .stripe)) after (good z .shape) (stripe z) (r .mend-suspect .result) (r .mend-suspect .ensures))
 
 pub mend-spec : {M : Type 1} → statement M
 mend-spec =
@@ -99,12 +70,6 @@ mend-spec =
     refusal-requires
     returns
     mend-suspect-requires
-    enum-told-2
-    enum-told-3
-    enum-known-u
+    told-requires
     same-length
-    returns-2
-    same-length-2
-    returns-3
-    same-length-3
-    returns-4)
+    returns-2)

@@ -1,4 +1,4 @@
--- `evenodd::showing::place_of` meets its contract: a law of show for each way out, from what the tests on the way there said.
+-- `showing::place_of` meets its contract: a law of show for each way out, from what the tests on the way there said.
 use mathlib.Core.Path.{_≡_, sym, _∙_}
 use native.Mathlib.Omega.{arith}
 use lib.ListN.{length}
@@ -8,9 +8,9 @@ use Rattle.parity.specs.Shape.{columnLength}
 use Rattle.marks.specs.Absent.{Counts}
 use Rattle.inputs.proofs.Shape.{places-most}
 use Rattle.inputs.proofs.Tests.{Lent, lent-good}
-use Rattle.evenodd.proofs.Shown.{NotRefused, show-refused, show-7, show-4, show-named, start-most, show-stripe, show-first, show-second}
-use Rattle.evenodd.proofs.showing.place_of.Statement.{statement}
-use Rattle.evenodd.proofs.showing.place_of.Tie as tie
+use Rattle.showing.proofs.Shown.{NotRefused, show-refused, show-7, show-4, show-named, start-most, show-stripe, show-first, show-second}
+use Rattle.showing.proofs.place_of.Statement.{statement}
+use Rattle.showing.proofs.place_of.Tie as tie
 
 good : (c : tie.After-known-told) → let a = c .before .before .before .before .before .before .args in
     Lent (a .m) (a .k) (a .b) (length (now (a .stripe))) (a .map .places) (length (now (a .bench))) (c .before .judged .given .0 .0)

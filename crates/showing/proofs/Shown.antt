@@ -21,7 +21,7 @@ use Rattle.marks.specs.declared.Gaps.{Gaps}
 use Rattle.marks.specs.Absent.{Counts}
 use Rattle.marks.proofs.Absent.{absences-below, below-under}
 use Rattle.inputs.specs.declared.maps.Map.{Map}
-use Rattle.evenodd.specs.declared.showing.Place.the-variants.{InStripe, InBench, Refused}
+use Rattle.showing.specs.declared.Place.the-variants.{InStripe, InBench, Refused}
 use Rattle.inputs.specs.declared.shapes.Judged.{Judged}
 use Rattle.inputs.specs.declared.shapes.Judged.the-variants as judged
 use Rattle.inputs.specs.declared.shapes.Refusal.{Refusal}
@@ -30,7 +30,7 @@ use Rattle.inputs.specs.Refusals.{pass, refuse, Rule, Gives}
 use Rattle.inputs.specs.Shapes.{refusalOf}
 use Rattle.inputs.specs.Maps.{Stray, TooManyAbsent, absentBelow}
 use Rattle.inputs.specs.Tests.{stripeTests, lentTests, JudgesLent}
-use Rattle.evenodd.specs.Shows.{laterRules, showRules, half, Places}
+use Rattle.showing.specs.Shows.{laterRules, showRules, half, Places}
 use Rattle.inputs.proofs.Rules.{gives-first, gives-next, gives-after, passed-first, equal-of}
 use Rattle.inputs.proofs.Shape.{places-most, parts-most, after-shape, passed-shape}
 use Rattle.inputs.proofs.Tests.{Lent, told-refused}

@@ -1,4 +1,4 @@
--- `evenodd::showing::show` meets its contract: the part that is lent is the one where `place_of` says that the column lies.
+-- `showing::show` meets its contract: the part that is lent is the one where `place_of` says that the column lies.
 use mathlib.Core.Path.{_≡_, refl, ap}
 use mathlib.Core.List.{List}
 use Prim.Native.Nat.{ℕ, _+_, _-_}
@@ -8,11 +8,11 @@ use denote.Ref.{RefT, now}
 use borrow.Author.Needs.{needs}
 use borrow.Rule.Slice.PartAt.{slPart}
 use borrow.Rule.Slice.Shared.{byByte}
-use Rattle.evenodd.specs.declared.showing.Place.the-variants.{InStripe, InBench, Refused}
-use Rattle.evenodd.specs.Shows.{Places, PartOf}
-use Rattle.evenodd.proofs.Shown.{stripe-fits, bench-fits}
-use Rattle.evenodd.proofs.showing.show.Statement.{statement}
-use Rattle.evenodd.proofs.showing.show.Tie as tie
+use Rattle.showing.specs.declared.Place.the-variants.{InStripe, InBench, Refused}
+use Rattle.showing.specs.Shows.{Places, PartOf}
+use Rattle.showing.proofs.Shown.{stripe-fits, bench-fits}
+use Rattle.showing.proofs.show.Statement.{statement}
+use Rattle.showing.proofs.show.Tie as tie
 
 -- a part that is lent is the part that is meant
 part-of : (x : RefT (List ℕ)) (at n : ℕ) (g : ℕ) → PartOf x at n (slPart x (byByte at (x .ptr .1)) at (at + n) g)

@@ -3,7 +3,7 @@ use inputs::Judged;
 use inputs::Map;
 use inputs::Refusal;
 use inputs::judge_lent;
-ghost use Rattle.evenodd.specs.Shows.{Places, Shows};
+ghost use Rattle.showing.specs.Shows.{Places, Shows};
 
 // Where a column is shown: from a byte on, so many bytes, in the stripe or in the bench; or why not.
 pub enum Place {

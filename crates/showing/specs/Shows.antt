@@ -14,8 +14,8 @@ use lib.ListN.{length, take, drop}
 use Rattle.parity.specs.Shape.{columnLength, stripeLength, benchLength}
 use Rattle.parity.specs.Presence.{present}
 use Rattle.inputs.specs.declared.maps.Map.{Map}
-use Rattle.evenodd.specs.declared.showing.Place.{Place}
-use Rattle.evenodd.specs.declared.showing.Place.the-variants.{InStripe, InBench, Refused}
+use Rattle.showing.specs.declared.Place.{Place}
+use Rattle.showing.specs.declared.Place.the-variants.{InStripe, InBench, Refused}
 use Rattle.inputs.specs.declared.shapes.Refusal.the-variants.{StripeLength, BenchLength, StrayColumn, NoSuchColumn, Ambiguous}
 use Rattle.inputs.specs.Refusals.{Verdict, pass, refuse, Rule, Gives}
 use Rattle.inputs.specs.Shapes.{shapeRules}

@@ -1,4 +1,4 @@
--- The promises of place_of and show determine their results: the proofs of their statements in specs/Determined.
+-- Each promise determines its result: the proofs of the statements in specs/Determined.
 -- A list of rules gives one verdict, and where it passes the promise says the rest.
 use mathlib.Core.Path.{_≡_, sym, ap, ap₂, _∙_}
 use mathlib.Core.Bool.{true≢false}
@@ -7,10 +7,10 @@ use Prim.Native.Nat.{ℕ}
 use denote.Ref.{RefT, now}
 use Rattle.inputs.specs.Refusals.{Verdict, Gives}
 use Rattle.inputs.proofs.Rules.{passes-not, refuse-one, gives-one}
-use Rattle.evenodd.specs.declared.showing.Place.{Place}
-use Rattle.evenodd.specs.declared.showing.Place.the-variants.{InStripe, InBench, Refused}
-use Rattle.evenodd.specs.Shows.{showRules, Places, PartOf, PartAt}
-use Rattle.evenodd.specs.Determined.{PlacesOne, SamePart, ShowsOne, PlacesUnread, ShowsUnread}
+use Rattle.showing.specs.declared.Place.{Place}
+use Rattle.showing.specs.declared.Place.the-variants.{InStripe, InBench, Refused}
+use Rattle.showing.specs.Shows.{showRules, Places, PartOf, PartAt}
+use Rattle.showing.specs.Determined.{PlacesOne, SamePart, ShowsOne, PlacesUnread, ShowsUnread}
 
 pub places-one : PlacesOne
 unfolding PlacesOne
