@@ -2,8 +2,9 @@
 --   passed-on, told-refused  a refusal is that of every list of rules that begins with the tests
 --   told-passed              a good shape passes them
 --   Numbers, stripe-good     what is known where the numbers and the stripe's length are right
---   FewAbsent, gaps-good, gaps-refused   and where at most two columns are absent; where not, the refusal
 --   Lent, lent-good          and where the bench's length and the map are right too
+--   FewAbsent, gaps-good     and where at most two columns are absent
+--   gaps-refused             where one of these is not so
 use mathlib.Core.Path.{_≡_, sym, ap, _∙_}
 use mathlib.Core.Bool.{Bool}
 use mathlib.Core.List.{List, _++_}
@@ -81,7 +82,7 @@ module _ (m k b n : ℕ) where
           clear = passed-first rest .0;
         }
 
-    -- where at most two columns are absent, all of that is known, and which they are
+    -- all of that, and the absent columns
     pub record FewAbsent (c : ℕ) (gaps : Gaps) : Type 0 where
       pub lent : Lent c
       pub tests : Gives ((stripeTests m k b n ++ lentTests m k b map w) ++ fewTests k map) pass

@@ -3,6 +3,8 @@
 --   stripeTests, JudgesStripe   1, 2: three numbers, and that length
 --   lentTests, JudgesLent       and then 3, 9: the length w of a bench, and the map
 --   fewTests, JudgesGaps        and then 4: at most two columns are absent, and which they are
+--   verdictOf, refusalOf        the verdict of an answer of the last, and the refusal that it carries
+--   GoodGaps                    what it gives: the bytes of a column, and the gaps below k + 2
 use mathlib.Core.Path.{_≡_}
 use mathlib.Core.Logic.{_≢_}
 use mathlib.Core.Bool.{Bool}
