@@ -1,6 +1,4 @@
 -- Laws that belong to no one function.
 pub mod Told
-pub mod Outcomes
+pub mod Determined
 pub mod EndToEnd
-pub mod Restored
-pub mod Mended

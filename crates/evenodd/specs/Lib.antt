@@ -1,7 +1,5 @@
--- What each call promises: its refusals in order, and its answer.
+-- What encode and check promise, and what follows from the promises of all calls.
 pub mod Encodes
 pub mod Checks
-pub mod Restores
-pub mod Mends
 pub mod Determined
 pub mod EndToEnd

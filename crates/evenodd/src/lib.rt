@@ -2,8 +2,6 @@
 // refused by number, and a refused call changes no byte that was lent.
 mod checking;
 mod encoding;
-mod mending;
-mod restoring;
 
 pub use checking::Checked;
 pub use checking::check;
@@ -14,10 +12,10 @@ pub use inputs::Map;
 pub use inputs::Marked;
 pub use inputs::Refusal;
 pub use inputs::judge;
-pub use mending::Mended;
-pub use mending::mend;
-pub use restoring::Restored;
-pub use restoring::restore;
+pub use rebuild::Mended;
+pub use rebuild::Restored;
+pub use rebuild::mend;
+pub use rebuild::restore;
 pub use showing::Place;
 pub use showing::place_of;
 pub use showing::show;

@@ -29,7 +29,7 @@ use Rattle.blame.specs.declared.Suspect.the-variants.{Nothing, Column, Nobody}
 use Rattle.repair.specs.Patches.{Patches}
 use Rattle.inputs.specs.Refusals.{Verdict, Gives}
 use Rattle.inputs.specs.Shapes.{stripeRules}
-use Rattle.evenodd.specs.Mends.{blameRules, mendRules, Mends, mendedBy}
+use Rattle.rebuild.specs.Mends.{blameRules, mendRules, Mends, mendedBy}
 use Rattle.inputs.proofs.Rules.{gives-first, gives-next, gives-after}
 use Rattle.inputs.proofs.Stripe.{stripe-passed}
 

@@ -26,14 +26,14 @@ use Rattle.marks.specs.Absent.{absentBelow, NthAbsent, Counts}
 use Rattle.marks.proofs.Absent.{absences-below, below-under, others-present}
 use Rattle.repair.specs.Fills.{Gapped, Filled, Fills}
 use Rattle.inputs.specs.declared.maps.Map.{Map}
-use Rattle.evenodd.specs.declared.restoring.Restored.the-variants.{Refused}
+use Rattle.rebuild.specs.declared.restoring.Restored.the-variants.{Refused}
 use Rattle.inputs.specs.declared.lent.Given.{Given}
 use Rattle.inputs.specs.declared.lent.Given.the-variants as given
 use Rattle.inputs.specs.declared.shapes.Refusal.{Refusal}
 use Rattle.inputs.specs.declared.shapes.Refusal.the-variants.{Contradicted}
 use Rattle.inputs.specs.Refusals.{Verdict, Rule, Gives}
 use Rattle.inputs.specs.Tests.{stripeTests, lentTests, fewTests, JudgesGaps, refusalOf}
-use Rattle.evenodd.specs.Restores.{restoreRules, Benched, RestoredFrom, Restores, restoredBy}
+use Rattle.rebuild.specs.Restores.{restoreRules, Benched, RestoredFrom, Restores, restoredBy}
 use Rattle.inputs.proofs.Rules.{gives-first, gives-next, gives-after}
 use Rattle.inputs.proofs.Tests.{FewAbsent, gaps-refused}
 

@@ -5,7 +5,7 @@ use inputs::Refusal;
 use inputs::judge_stripe;
 use lines::Grid;
 ghost use mathlib.Core.Path.{_≡_};
-ghost use Rattle.evenodd.specs.Mends.{Mends, mendedBy};
+ghost use Rattle.rebuild.specs.Mends.{Mends, mendedBy};
 
 // What mend answers: the stripe is intact, or the column that it rewrote; or why not.
 pub enum Mended {

@@ -1,4 +1,4 @@
--- `evenodd::restoring::restore` meets its contract: a law of restore for each way out, from what the tests on the way there said.
+-- `rebuild::restoring::restore` meets its contract: a law of restore for each way out, from what the tests on the way there said.
 use mathlib.Core.Path.{sym, subst}
 use lib.ListN.{length}
 use native.Mathlib.Omega.{arith}
@@ -6,10 +6,10 @@ use denote.Ref.{now}
 use borrow.Author.Needs.{needs}
 use Rattle.parity.specs.Stripe.{Stripe}
 use Rattle.inputs.proofs.Tests.{FewAbsent, gaps-good}
-use Rattle.evenodd.specs.Restores.{Restores}
-use Rattle.evenodd.proofs.Restored.{restore-refused, restore-gapped, restore-told}
-use Rattle.evenodd.proofs.restoring.restore.Statement.{statement}
-use Rattle.evenodd.proofs.restoring.restore.Tie as tie
+use Rattle.rebuild.specs.Restores.{Restores}
+use Rattle.rebuild.proofs.Restored.{restore-refused, restore-gapped, restore-told}
+use Rattle.rebuild.proofs.restoring.restore.Statement.{statement}
+use Rattle.rebuild.proofs.restoring.restore.Tie as tie
 
 good : (c : tie.After-known-told) → let a = c .before .before .before .before .before .before .args in let x = c .before .judged .given .0 in
     FewAbsent (a .m) (a .k) (a .b) (length (now (a .stripe))) (a .map .places) (length (now (a .bench))) (x .0) (x .1 .0)

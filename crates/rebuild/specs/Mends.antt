@@ -11,8 +11,8 @@ use Rattle.parity.specs.Stripe.{Valid}
 use Rattle.parity.specs.Presence.{differing, DifferIn}
 use Rattle.blame.specs.declared.Suspect.{Suspect}
 use Rattle.blame.specs.declared.Suspect.the-variants.{Nothing, Column, Nobody}
-use Rattle.evenodd.specs.declared.mending.Mended.{Mended}
-use Rattle.evenodd.specs.declared.mending.Mended.the-variants as mended
+use Rattle.rebuild.specs.declared.mending.Mended.{Mended}
+use Rattle.rebuild.specs.declared.mending.Mended.the-variants as mended
 use Rattle.inputs.specs.declared.shapes.Refusal.the-variants.{Unmendable}
 use Rattle.inputs.specs.Refusals.{Verdict, pass, refuse, Rule, Gives}
 use Rattle.inputs.specs.Shapes.{stripeRules}

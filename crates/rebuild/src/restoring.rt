@@ -6,7 +6,7 @@ use inputs::judge_gaps;
 use lines::Grid;
 use marks::Gaps;
 ghost use mathlib.Core.Path.{_≡_};
-ghost use Rattle.evenodd.specs.Restores.{Restores, restoredBy};
+ghost use Rattle.rebuild.specs.Restores.{Restores, restoredBy};
 
 // What restore answers: how many columns it restored and their numbers, 129 standing for none; or why not.
 pub enum Restored {

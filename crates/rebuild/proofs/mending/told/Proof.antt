@@ -1,8 +1,8 @@
--- `evenodd::mending::told` meets its contract: the answer of each suspect.
+-- `rebuild::mending::told` meets its contract: the answer of each suspect.
 use mathlib.Core.Path.{sym, ap}
-use Rattle.evenodd.specs.Mends.{mendedBy}
-use Rattle.evenodd.proofs.mending.told.Statement.{statement}
-use Rattle.evenodd.proofs.mending.told.Tie as tie
+use Rattle.rebuild.specs.Mends.{mendedBy}
+use Rattle.rebuild.proofs.mending.told.Statement.{statement}
+use Rattle.rebuild.proofs.mending.told.Tie as tie
 
 enum-told : tie.Need-enum-told
 enum-told c = c .match .keys1

@@ -1,9 +1,9 @@
--- `evenodd::restoring::told` meets its contract: the gaps were filled, or not.
+-- `rebuild::restoring::told` meets its contract: the gaps were filled, or not.
 use mathlib.Core.Path.{sym, ap}
 use borrow.Author.Tests.{not-true, not-false}
-use Rattle.evenodd.specs.Restores.{restoredBy}
-use Rattle.evenodd.proofs.restoring.told.Statement.{statement}
-use Rattle.evenodd.proofs.restoring.told.Tie as tie
+use Rattle.rebuild.specs.Restores.{restoredBy}
+use Rattle.rebuild.proofs.restoring.told.Statement.{statement}
+use Rattle.rebuild.proofs.restoring.told.Tie as tie
 
 returns : tie.Need-returns
 returns c = let a = c .before .args in sym (ap (restoredBy (a .gaps)) (not-true (a .filled) (c .if1 .taken)))

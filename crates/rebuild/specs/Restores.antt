@@ -15,8 +15,8 @@ use Rattle.parity.specs.Stripe.{byte, Valid}
 use Rattle.parity.specs.Presence.{absences, Agrees}
 use Rattle.marks.specs.declared.Gaps.{Gaps}
 use Rattle.inputs.specs.declared.maps.Map.{Map}
-use Rattle.evenodd.specs.declared.restoring.Restored.{Restored}
-use Rattle.evenodd.specs.declared.restoring.Restored.the-variants.{Columns, Refused}
+use Rattle.rebuild.specs.declared.restoring.Restored.{Restored}
+use Rattle.rebuild.specs.declared.restoring.Restored.the-variants.{Columns, Refused}
 use Rattle.inputs.specs.declared.shapes.Refusal.the-variants.{StripeLength, BenchLength, StrayColumn, Ambiguous, Contradicted}
 use Rattle.inputs.specs.Refusals.{Verdict, pass, refuse, Rule, Gives}
 use Rattle.inputs.specs.Shapes.{shapeRules}

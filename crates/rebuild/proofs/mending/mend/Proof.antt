@@ -1,16 +1,16 @@
--- `evenodd::mending::mend` meets its contract: the tests, and what mend_suspect found and left.
+-- `rebuild::mending::mend` meets its contract: the tests, and what mend_suspect found and left.
 use mathlib.Core.Path.{refl, sym, subst}
 use lib.ListN.{length}
 use native.Mathlib.Omega.{arith}
 use denote.Ref.{now}
 use borrow.Author.Needs.{needs}
 use Rattle.parity.specs.Stripe.{Stripe}
-use Rattle.evenodd.specs.Mends.{blameRules, Mends}
+use Rattle.rebuild.specs.Mends.{blameRules, Mends}
 use Rattle.inputs.specs.Tests.{stripeTests}
 use Rattle.inputs.proofs.Tests.{told-refused, Numbers, stripe-good}
-use Rattle.evenodd.proofs.Mended.{mend-answer}
-use Rattle.evenodd.proofs.mending.mend.Statement.{statement}
-use Rattle.evenodd.proofs.mending.mend.Tie as tie
+use Rattle.rebuild.proofs.Mended.{mend-answer}
+use Rattle.rebuild.proofs.mending.mend.Statement.{statement}
+use Rattle.rebuild.proofs.mending.mend.Tie as tie
 
 good : (c : tie.After-known-told) → let a = c .before .before .before .before .before .args in
     Numbers (a .m) (a .k) (a .b) (length (now (a .stripe))) (c .before .judged .given .0 .0)
