@@ -1,112 +1,53 @@
--- Each promise determines its result: the proofs of the statements in specs/Determined.
--- A list of rules gives one verdict, and where it passes the promise says the rest.
+-- Each promise determines answer and buffers: the proofs of the statements in specs/Determined.
+-- A list of rules gives one verdict. Where it passes, the promise says the rest.
 use mathlib.Core.Path.{_≡_, refl, sym, ap, ap₂, _∙_}
-use mathlib.Core.Logic.{by-cases}
-use mathlib.Core.Bool.{Bool, true, false, cond, true≢false}
+use mathlib.Core.Logic.{_≢_, by-cases}
+use mathlib.Core.Bool.{false}
 use mathlib.Core.List.{List}
-use Prim.Native.Nat.{ℕ}
+use Prim.Native.Nat.{ℕ, _+_, _<_}
 use native.Mathlib.Decide.{decLt}
 use native.Mathlib.Omega.{arith}
-use denote.Ref.{RefT, now}
-use lib.Dec.{eqb}
-use lib.Seq.{ext-getD}
-use Rattle.marks.proofs.Absent.{past-all}
-use Rattle.evenodd.specs.declared.maps.Marked.the-variants as marked
-use Rattle.evenodd.specs.declared.shapes.Judged.the-variants as judged
-use Rattle.evenodd.specs.declared.showing.Place.{Place}
-use Rattle.evenodd.specs.declared.showing.Place.the-variants.{InStripe, InBench, Refused}
-use Rattle.evenodd.specs.Refusals.{Verdict, Gives}
-use Rattle.evenodd.specs.Shapes.{shapeRules}
-use Rattle.evenodd.specs.Maps.{placeRules}
-use Rattle.evenodd.specs.Shows.{showRules, Places, PartOf, PartAt}
-use Rattle.evenodd.specs.Determined.{JudgesOne, NewOne, OfBytesOne, AsBytesOne, MarksOne, MarkedTwice, JudgesPlaceOne, PlacesOne, SamePart, ShowsOne, PlacesUnread, ShowsUnread}
-use Rattle.evenodd.proofs.Rules.{passes-not, refuse-one, gives-one}
-use Rattle.evenodd.proofs.Presence.{same-map}
+use Rattle.parity.specs.Shape.{Shape}
+use Rattle.parity.specs.Stripe.{Valid}
+use Rattle.parity.specs.Presence.{differs}
+use Rattle.parity.proofs.Columns.{same-column}
+use Rattle.parity.proofs.Stripes.{stripe-determined}
+use Rattle.parity.proofs.Theorems.{frame, served}
+use Rattle.inputs.specs.Shapes.{stripeRules}
+use Rattle.inputs.proofs.Rules.{passes-not, refuse-one, gives-one}
+use Rattle.inputs.proofs.Stripe.{stripe-given}
+use Rattle.evenodd.specs.declared.checking.Checked.the-variants as checked
+use Rattle.evenodd.specs.declared.encoding.Encoded.the-variants as encoded
+use Rattle.evenodd.specs.Determined.{EncodesOne, ChecksOne}
 
-pub judges-one : JudgesOne
-unfolding JudgesOne
-judges-one m k b (judged.Good c) (judged.Good d) x y = ap judged.Good (x .column ∙ sym (y .column))
-judges-one m k b (judged.Good c) (judged.Refused g) x y = absurd (passes-not g (gives-one (shapeRules m k b) _ _ (x .told) (y .told)))
-judges-one m k b (judged.Refused f) (judged.Good d) x y = absurd (passes-not f (gives-one (shapeRules m k b) _ _ (y .told) (x .told)))
-judges-one m k b (judged.Refused f) (judged.Refused g) x y = ap judged.Refused (refuse-one f g (gives-one (shapeRules m k b) _ _ (x .told) (y .told)))
-
-pub new-one : NewOne
-unfolding NewOne
-new-one r q x y = same-map r q (x .whole) (y .whole) (λ t. x .absent t ∙ sym (y .absent t))
-
-pub of-bytes-one : OfBytesOne
-unfolding OfBytesOne
-of-bytes-one bytes r q x y = same-map r q (x .whole) (y .whole) (λ t.
-    by-cases (decLt t 129)
-    (λ l. x .at t l ∙ sym (y .at t l))
-    (λ n. past-all (r .places) t (let w = x .whole in omega arith) ∙ sym (past-all (q .places) t (let w = y .whole in omega arith))))
-
-pub as-bytes-one : AsBytesOne
-unfolding AsBytesOne
-as-bytes-one map x y p q = ext-getD 0 x y (p .whole ∙ sym (q .whole)) (λ t l. let w = p .whole in p .at t (omega arith) ∙ sym (q .at t (omega arith)))
-
-pub marks-one : MarksOne
-unfolding MarksOne
-marks-one state before place r q x y =
-    by-cases (decLt place 129)
-    (λ l. same-map r q (x .whole) (y .whole) (λ t. x .done l t ∙ sym (y .done l t)))
-    (λ n. x .kept (omega arith) ∙ sym (y .kept (omega arith)))
-
-pub marked-twice : MarkedTwice
-unfolding MarkedTwice
-marked-twice state before place once twice x y =
-    by-cases (decLt place 129)
-    (λ l. same-map twice once (y .whole) (x .whole) (λ t. again (eqb t place) _ _ _ (x .done l t) (y .done l t)))
-    (λ n. y .kept (omega arith))
+-- valid stripes with the same data columns are one
+pub data-determine : (m k b : ℕ) → Shape m k b → (s x y : List ℕ) → Valid m k b x → Valid m k b y
+    → ((t : ℕ) → t < k → differs m b s x t ≡ false) → ((t : ℕ) → t < k → differs m b s y t ≡ false) → x ≡ y
+data-determine m k b h s x y vx vy dx dy =
+    stripe-determined m k b (frame m k b h) (h .filled) k (k + 1) (served m k b h k (k + 1) (omega arith) (omega arith)) x y vx vy (record {
+      at = λ l i t hl hi ht nh nd. let real : t < k = below t ht nh nd in sym (same-column m b s x t (dx t real) l i hl hi) ∙ same-column m b s y t (dy t real) l i hl hi;
+    })
   where
-    again : (b : Bool) (u v w : Bool) → v ≡ cond b state u → w ≡ cond b state v → w ≡ v
-    again true u v w p q = q ∙ sym p
-    again false u v w p q = q
+    below : (t : ℕ) → t < k + 2 → t ≢ k → t ≢ k + 1 → t < k
+    below t ht nh nd = by-cases (decLt t k) (λ l. l) (λ n. by-cases (decLt k t) (λ l. absurd (nd (omega arith))) (λ o. absurd (nh (omega arith))))
 
-pub judges-place-one : JudgesPlaceOne
-unfolding JudgesPlaceOne
-judges-place-one place marked.Done marked.Done x y = refl
-judges-place-one place marked.Done (marked.Refused g) x y = absurd (passes-not g (gives-one (placeRules place) _ _ (x .told) (y .told)))
-judges-place-one place (marked.Refused f) marked.Done x y = absurd (passes-not f (gives-one (placeRules place) _ _ (y .told) (x .told)))
-judges-place-one place (marked.Refused f) (marked.Refused g) x y = ap marked.Refused (refuse-one f g (gives-one (placeRules place) _ _ (x .told) (y .told)))
+pub encodes-one : EncodesOne
+unfolding EncodesOne
+encodes-one m k b s x y encoded.Done encoded.Done p q =
+    (refl, data-determine m k b (stripe-given m k b s (p .told) .0) s x y (p .written .0) (q .written .0) (p .written .1) (q .written .1))
+encodes-one m k b s x y encoded.Done (encoded.Refused g) p q = absurd (passes-not g (gives-one (stripeRules m k b s) _ _ (p .told) (q .told)))
+encodes-one m k b s x y (encoded.Refused f) encoded.Done p q = absurd (passes-not f (gives-one (stripeRules m k b s) _ _ (q .told) (p .told)))
+encodes-one m k b s x y (encoded.Refused f) (encoded.Refused g) p q =
+    (ap encoded.Refused (refuse-one f g (gives-one (stripeRules m k b s) _ _ (p .told) (q .told))), p .written ∙ sym (q .written))
 
-pub places-one : PlacesOne
-unfolding PlacesOne
-places-one m k b map s bench column r q x y = go r q x y
-  where
-    answered : (v w : Verdict) → Gives (showRules m k b map s bench column) v → Gives (showRules m k b map s bench column) w → v ≡ w
-    answered v w = gives-one (showRules m k b map s bench column) v w
-
-    go : (r q : Place) → Places m k b map s bench column r → Places m k b map s bench column q → r ≡ q
-    go (InStripe a n) (InStripe c l) x y = ap₂ InStripe (x .lies .1 ∙ sym (y .lies .1)) (x .lies .2 ∙ sym (y .lies .2))
-    go (InStripe a n) (InBench c l) x y = absurd (true≢false (sym (x .lies .0) ∙ y .lies .0))
-    go (InStripe a n) (Refused g) x y = absurd (passes-not g (answered _ _ (x .told) (y .told)))
-    go (InBench a n) (InStripe c l) x y = absurd (true≢false (sym (y .lies .0) ∙ x .lies .0))
-    go (InBench a n) (InBench c l) x y = ap₂ InBench (x .lies .1 ∙ sym (y .lies .1)) (x .lies .2 ∙ sym (y .lies .2))
-    go (InBench a n) (Refused g) x y = absurd (passes-not g (answered _ _ (x .told) (y .told)))
-    go (Refused f) (InStripe c l) x y = absurd (passes-not f (answered _ _ (y .told) (x .told)))
-    go (Refused f) (InBench c l) x y = absurd (passes-not f (answered _ _ (y .told) (x .told)))
-    go (Refused f) (Refused g) x y = ap Refused (refuse-one f g (answered _ _ (x .told) (y .told)))
-
-part-one : (x : RefT (List ℕ)) (at n : ℕ) (r q : RefT (List ℕ)) → PartOf x at n r → PartOf x at n q → SamePart r q
-part-one x at n r q u v = record { block = u .block ∙ sym (v .block); place = u .place ∙ sym (v .place); bytes = u .bytes ∙ sym (v .bytes) }
-
-part-at-one : (s bench : RefT (List ℕ)) (p : Place) (r q : RefT (List ℕ)) → PartAt s bench p r → PartAt s bench p q → SamePart r q
-part-at-one s bench (InStripe a n) r q u v = part-one s a n r q u v
-part-at-one s bench (InBench a n) r q u v = part-one bench a n r q u v
-part-at-one s bench (Refused f) r q u v = part-one s 0 0 r q u v
-
-pub shows-one : ShowsOne
-unfolding ShowsOne PlacesOne
-shows-one m k b map s bench column r q x y =
-    let e = places-one m k b map (now s) (now bench) column (x .answer) (y .answer) (x .places) (y .places) in
-    part-at-one s bench (y .answer) r q (rw e at (x .part)) (y .part)
-
-pub places-unread : PlacesUnread
-unfolding PlacesUnread
-places-unread m k b map s bench other spare column r x e f = record { told = rw (e, f) (x .told); lies = x .lies }
-
-pub shows-unread : ShowsUnread
-unfolding ShowsUnread PlacesUnread PlacesOne
-shows-unread m k b map s bench other spare column r q x y e f =
-    places-one m k b map (now other) (now spare) column (x .answer) (y .answer) (places-unread m k b map (now s) (now bench) (now other) (now spare) column (x .answer) (x .places) e f) (y .places)
+pub checks-one : ChecksOne
+unfolding ChecksOne
+checks-one m k b s checked.Intact checked.Intact p q = refl
+checks-one m k b s checked.Intact (checked.Broken x y) p q = absurd (q .found .0 (p .found))
+checks-one m k b s checked.Intact (checked.Refused g) p q = absurd (passes-not g (gives-one (stripeRules m k b s) _ _ (p .told) (q .told)))
+checks-one m k b s (checked.Broken x y) checked.Intact p q = absurd (p .found .0 (q .found))
+checks-one m k b s (checked.Broken x y) (checked.Broken u v) p q = ap₂ checked.Broken (p .found .1 ∙ sym (q .found .1)) (p .found .2 ∙ sym (q .found .2))
+checks-one m k b s (checked.Broken x y) (checked.Refused g) p q = absurd (passes-not g (gives-one (stripeRules m k b s) _ _ (p .told) (q .told)))
+checks-one m k b s (checked.Refused f) checked.Intact p q = absurd (passes-not f (gives-one (stripeRules m k b s) _ _ (q .told) (p .told)))
+checks-one m k b s (checked.Refused f) (checked.Broken u v) p q = absurd (passes-not f (gives-one (stripeRules m k b s) _ _ (q .told) (p .told)))
+checks-one m k b s (checked.Refused f) (checked.Refused g) p q = ap checked.Refused (refuse-one f g (gives-one (stripeRules m k b s) _ _ (p .told) (q .told)))

@@ -7,8 +7,8 @@ use Rattle.parity.specs.Stripe.{brokenRows, brokenDiagonals}
 use Rattle.counts.specs.declared.Counts.{Counts}
 use Rattle.evenodd.specs.declared.checking.Checked.{Checked}
 use Rattle.evenodd.specs.declared.checking.Checked.the-variants as checked
-use Rattle.evenodd.specs.Refusals.{pass, Gives}
-use Rattle.evenodd.specs.Shapes.{stripeRules}
+use Rattle.inputs.specs.Refusals.{pass, Gives}
+use Rattle.inputs.specs.Shapes.{stripeRules}
 use Rattle.evenodd.specs.Checks.{Checks, Says}
 
 module _ (m k b : ℕ) (s : List ℕ) (passed : Gives (stripeRules m k b s) pass) (c : Counts) (rows : c .rows ≡ brokenRows m k b s) (diagonals : c .diagonals ≡ brokenDiagonals m k b s) where

@@ -9,8 +9,8 @@ use Rattle.parity.specs.Stripe.{Intact, brokenRows, brokenDiagonals}
 use Rattle.counts.specs.declared.Counts.{Counts}
 use Rattle.evenodd.specs.declared.checking.Checked.{Checked}
 use Rattle.evenodd.specs.declared.checking.Checked.the-variants as checked
-use Rattle.evenodd.specs.Refusals.{Verdict, pass, refuse, Gives}
-use Rattle.evenodd.specs.Shapes.{stripeRules}
+use Rattle.inputs.specs.Refusals.{Verdict, pass, refuse, Gives}
+use Rattle.inputs.specs.Shapes.{stripeRules}
 
 abbrev pub verdictOf : Checked → Verdict
 verdictOf checked.Intact = pass

@@ -1,89 +1,15 @@
 -- Each promise determines its result: two results that meet it are equal. Each statement is a type, which proofs/Determined inhabits.
--- What `is_present` and `number` promise is an equation, so there is nothing to say of them. Of a part that show hands out, the place and the bytes are
--- determined: `SamePart`. The name under which the logic follows a reference is no part of the answer.
---   JudgesOne, NewOne, OfBytesOne, AsBytesOne, MarksOne, JudgesPlaceOne, PlacesOne, ShowsOne, EncodesOne, ChecksOne, RestoresOne, MendsOne    the promise of each call
---   MarkedTwice                  marking twice equals marking once
---   PlacesUnread, ShowsUnread    no byte of stripe or bench alters where a column is shown: their lengths alone are asked
---   RestoresUnread               what stands in an absent column's place alters neither restore's answer nor the bench
+--   EncodesOne, ChecksOne    the promise of each call
 use mathlib.Core.Path.{_≡_}
-use mathlib.Core.Bool.{Bool}
 use mathlib.Core.List.{List}
 use Prim.Native.Nat.{ℕ}
-use denote.Ref.{RefT, now}
-use lib.ListN.{length}
-use Rattle.parity.specs.Presence.{Agrees}
 use Rattle.evenodd.specs.declared.checking.Checked.{Checked}
 use Rattle.evenodd.specs.declared.encoding.Encoded.{Encoded}
-use Rattle.evenodd.specs.declared.maps.Map.{Map}
-use Rattle.evenodd.specs.declared.maps.Marked.{Marked}
-use Rattle.evenodd.specs.declared.mending.Mended.{Mended}
-use Rattle.evenodd.specs.declared.restoring.Restored.{Restored}
-use Rattle.evenodd.specs.declared.shapes.Judged.{Judged}
-use Rattle.evenodd.specs.declared.showing.Place.{Place}
-use Rattle.evenodd.specs.Shapes.{Judges}
-use Rattle.evenodd.specs.Maps.{New, OfBytes, AsBytes, Marks, JudgesPlace}
-use Rattle.evenodd.specs.Shows.{Places, Shows}
 use Rattle.evenodd.specs.Encodes.{Encodes}
 use Rattle.evenodd.specs.Checks.{Checks}
-use Rattle.evenodd.specs.Restores.{Restores}
-use Rattle.evenodd.specs.Mends.{Mends}
-
-unfoldable pub JudgesOne : Type 0
-JudgesOne = (m k b : ℕ) (r q : Judged) → Judges m k b r → Judges m k b q → r ≡ q
-
-unfoldable pub NewOne : Type 0
-NewOne = (r q : Map) → New r → New q → r ≡ q
-
-unfoldable pub OfBytesOne : Type 0
-OfBytesOne = (bytes : List ℕ) (r q : Map) → OfBytes bytes r → OfBytes bytes q → r ≡ q
-
-unfoldable pub AsBytesOne : Type 0
-AsBytesOne = (map : Map) (x y : List ℕ) → AsBytes map x → AsBytes map y → x ≡ y
-
-unfoldable pub MarksOne : Type 0
-MarksOne = (state : Bool) (before : Map) (place : ℕ) (r q : Map) → Marks state before place r → Marks state before place q → r ≡ q
-
-unfoldable pub MarkedTwice : Type 0
-MarkedTwice = (state : Bool) (before : Map) (place : ℕ) (once twice : Map) → Marks state before place once → Marks state once place twice → twice ≡ once
-
-unfoldable pub JudgesPlaceOne : Type 0
-JudgesPlaceOne = (place : ℕ) (r q : Marked) → JudgesPlace place r → JudgesPlace place q → r ≡ q
-
-unfoldable pub PlacesOne : Type 0
-PlacesOne = (m k b : ℕ) (map : Map) (s bench : List ℕ) (column : ℕ) (r q : Place)
-    → Places m k b map s bench column r → Places m k b map s bench column q → r ≡ q
-
-pub record SamePart (r q : RefT (List ℕ)) : Type 0 where
-  pub block : r .ptr .0 ≡ q .ptr .0
-  pub place : r .ptr .1 ≡ q .ptr .1
-  pub bytes : now r ≡ now q
-
-unfoldable pub ShowsOne : Type 0
-ShowsOne = (m k b : ℕ) (map : Map) (s bench : RefT (List ℕ)) (column : ℕ) (r q : RefT (List ℕ))
-    → Shows m k b map s bench column r → Shows m k b map s bench column q → SamePart r q
-
-unfoldable pub PlacesUnread : Type 0
-PlacesUnread = (m k b : ℕ) (map : Map) (s bench other spare : List ℕ) (column : ℕ) (r : Place)
-    → Places m k b map s bench column r → length other ≡ length s → length spare ≡ length bench → Places m k b map other spare column r
-
-unfoldable pub ShowsUnread : Type 0
-ShowsUnread = (m k b : ℕ) (map : Map) (s bench other spare : RefT (List ℕ)) (column : ℕ) (r q : RefT (List ℕ))
-    → (x : Shows m k b map s bench column r) (y : Shows m k b map other spare column q)
-    → length (now other) ≡ length (now s) → length (now spare) ≡ length (now bench) → x .answer ≡ y .answer
 
 unfoldable pub EncodesOne : Type 0
 EncodesOne = (m k b : ℕ) (s x y : List ℕ) (r q : Encoded) → Encodes m k b s x r → Encodes m k b s y q → (r ≡ q) × (x ≡ y)
 
 unfoldable pub ChecksOne : Type 0
 ChecksOne = (m k b : ℕ) (s : List ℕ) (r q : Checked) → Checks m k b s r → Checks m k b s q → r ≡ q
-
-unfoldable pub RestoresOne : Type 0
-RestoresOne = (m k b : ℕ) (map : Map) (s bench x y : List ℕ) (r q : Restored)
-    → Restores m k b map s bench x r → Restores m k b map s bench y q → (r ≡ q) × (x ≡ y)
-
-unfoldable pub RestoresUnread : Type 0
-RestoresUnread = (m k b : ℕ) (map : Map) (s other bench x : List ℕ) (r : Restored)
-    → Restores m k b map s bench x r → length other ≡ length s → Agrees m k b (map .places) s other → Restores m k b map other bench x r
-
-unfoldable pub MendsOne : Type 0
-MendsOne = (m k b : ℕ) (s x y : List ℕ) (r q : Mended) → Mends m k b s x r → Mends m k b s y q → (r ≡ q) × (x ≡ y)

@@ -8,8 +8,8 @@ use Rattle.parity.specs.Stripe.{Valid}
 use Rattle.parity.specs.Presence.{differs}
 use Rattle.evenodd.specs.declared.encoding.Encoded.{Encoded}
 use Rattle.evenodd.specs.declared.encoding.Encoded.the-variants.{Done, Refused}
-use Rattle.evenodd.specs.Refusals.{Verdict, pass, refuse, Gives}
-use Rattle.evenodd.specs.Shapes.{stripeRules}
+use Rattle.inputs.specs.Refusals.{Verdict, pass, refuse, Gives}
+use Rattle.inputs.specs.Shapes.{stripeRules}
 
 abbrev pub encoded : Encoded → Verdict
 encoded Done = pass

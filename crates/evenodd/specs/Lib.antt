@@ -1,12 +1,5 @@
--- What each call promises: its refusals in order, and its answer.
-pub mod Refusals
-pub mod Shapes
-pub mod Maps
-pub mod Tests
-pub mod Shows
+-- What encode and check promise, and what follows from the promises of all calls.
 pub mod Encodes
 pub mod Checks
-pub mod Restores
-pub mod Mends
 pub mod Determined
 pub mod EndToEnd

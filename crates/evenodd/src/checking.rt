@@ -1,8 +1,8 @@
 // Check.
-use crate::lent::judge_stripe;
-use crate::shapes::Judged;
-use crate::shapes::Refusal;
 use counts::Counts;
+use inputs::Judged;
+use inputs::Refusal;
+use inputs::judge_stripe;
 use lines::Grid;
 ghost use Rattle.evenodd.specs.Checks.{Checks, Says};
 

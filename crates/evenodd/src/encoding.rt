@@ -1,7 +1,7 @@
 // Encode.
-use crate::lent::judge_stripe;
-use crate::shapes::Judged;
-use crate::shapes::Refusal;
+use inputs::Judged;
+use inputs::Refusal;
+use inputs::judge_stripe;
 use lines::Grid;
 ghost use Rattle.evenodd.specs.Encodes.{Encodes};
 

@@ -2,26 +2,20 @@
 // refused by number, and a refused call changes no byte that was lent.
 mod checking;
 mod encoding;
-mod lent;
-mod maps;
-mod mending;
-mod restoring;
-mod shapes;
-mod showing;
 
 pub use checking::Checked;
 pub use checking::check;
 pub use encoding::Encoded;
 pub use encoding::encode;
-pub use maps::Map;
-pub use maps::Marked;
-pub use mending::Mended;
-pub use mending::mend;
-pub use restoring::Restored;
-pub use restoring::restore;
-pub use shapes::Judged;
-pub use shapes::Refusal;
-pub use shapes::judge;
+pub use inputs::Judged;
+pub use inputs::Map;
+pub use inputs::Marked;
+pub use inputs::Refusal;
+pub use inputs::judge;
+pub use rebuild::Mended;
+pub use rebuild::Restored;
+pub use rebuild::mend;
+pub use rebuild::restore;
 pub use showing::Place;
 pub use showing::place_of;
 pub use showing::show;

@@ -13,12 +13,12 @@ use Rattle.parity.specs.Presence.{present, absences}
 use Rattle.parity.proofs.Bytes.{stripe-ext}
 use Rattle.parity.proofs.Columns.{same-column, places-same}
 use Rattle.cells.proofs.Parts.{by-order}
-use Rattle.evenodd.specs.declared.maps.Map.{Map}
-use Rattle.evenodd.specs.declared.shapes.Refusal.{Refusal}
-use Rattle.evenodd.specs.Refusals.{pass, refuse, Gives}
-use Rattle.evenodd.specs.Determined.{NewOne}
-use Rattle.evenodd.proofs.Rules.{passes-not, passed-first, equal-of, gives-one, gives-passed}
-use Rattle.evenodd.proofs.Determined.{new-one}
+use Rattle.inputs.specs.declared.maps.Map.{Map}
+use Rattle.inputs.specs.declared.shapes.Refusal.{Refusal}
+use Rattle.inputs.specs.Refusals.{pass, refuse, Gives}
+use Rattle.inputs.specs.Determined.{NewOne}
+use Rattle.inputs.proofs.Rules.{passes-not, passed-first, equal-of, gives-one, gives-passed}
+use Rattle.inputs.proofs.Determined.{new-one}
 use Rattle.image.specs.declared.answers.Read.{Read}
 use Rattle.image.specs.declared.answers.Read.the-variants as read
 use Rattle.image.specs.Reads.{contentsRules, lengthRules, readRules, answered, kOf, Says, Filled, Fills}

@@ -15,8 +15,8 @@ use borrow.Author.Count.{below-more}
 use borrow.Author.Tests.{eq-eqb, ne-eqb}
 use Rattle.parity.specs.Sum.{count}
 use Rattle.parity.specs.Presence.{present}
-use Rattle.evenodd.specs.declared.maps.Map.{Map}
-use Rattle.evenodd.specs.Maps.{New, Marks}
+use Rattle.inputs.specs.declared.maps.Map.{Map}
+use Rattle.inputs.specs.Maps.{New, Marks}
 use Rattle.image.specs.declared.table.Table.{Table}
 use Rattle.image.specs.declared.table.State.the-variants.{Present, Absent, Wrong}
 use Rattle.image.specs.Reads.{number2}

@@ -9,13 +9,13 @@ use Prim.Native.Nat.{ℕ, _+_}
 use lib.ListN.{length}
 use Rattle.parity.specs.Shape.{Shape, columnLength, stripeLength}
 use Rattle.parity.proofs.Columns.{places-same}
-use Rattle.evenodd.specs.declared.maps.Map.{Map}
-use Rattle.evenodd.specs.declared.shapes.Refusal.{Refusal}
-use Rattle.evenodd.specs.declared.shapes.Refusal.the-variants.{StripeLength}
-use Rattle.evenodd.specs.Refusals.{pass, refuse, Gives}
-use Rattle.evenodd.specs.Maps.{New}
-use Rattle.evenodd.proofs.Rules.{gives-first, gives-next, passed-first, gives-refused, gives-after}
-use Rattle.evenodd.proofs.Shape.{passed-shape}
+use Rattle.inputs.specs.declared.maps.Map.{Map}
+use Rattle.inputs.specs.declared.shapes.Refusal.{Refusal}
+use Rattle.inputs.specs.declared.shapes.Refusal.the-variants.{StripeLength}
+use Rattle.inputs.specs.Refusals.{pass, refuse, Gives}
+use Rattle.inputs.specs.Maps.{New}
+use Rattle.inputs.proofs.Rules.{gives-first, gives-next, passed-first, gives-refused, gives-after}
+use Rattle.inputs.proofs.Shape.{passed-shape}
 use Rattle.image.specs.declared.answers.Read.the-variants as read
 use Rattle.image.specs.declared.answers.Contents.{Contents}
 use Rattle.image.specs.Format.{WellFormed}

@@ -19,7 +19,7 @@ use Rattle.parity.specs.Presence.{present}
 use Rattle.parity.proofs.Bytes.{byte-at, row-at, build, build-byte, build-stripe}
 use Rattle.parity.proofs.Count.{count-cong, count-most, count-under}
 use Rattle.cells.proofs.Parts.{parts-end}
-use Rattle.evenodd.proofs.Shape.{places-most, parts-most}
+use Rattle.inputs.proofs.Shape.{places-most, parts-most}
 use Rattle.image.specs.Format.{bodiesAt, presentBelow, offset, entry, body, WellFormed}
 use Rattle.image.specs.Reads.{number2}
 use Rattle.image.specs.Entries.{entryAt, saysPresent, offsetAt, Entry, bodyAt, RightEntries, Bodies}

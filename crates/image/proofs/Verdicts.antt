@@ -13,15 +13,15 @@ use Prim.Native.Nat.{ℕ, _+_, _≤_, _<_}
 use native.Mathlib.Omega.{arith}
 use lib.ListN.{length}
 use Rattle.parity.specs.Shape.{Shape, columnLength}
-use Rattle.evenodd.specs.declared.shapes.Judged.{Judged}
-use Rattle.evenodd.specs.declared.shapes.Judged.the-variants as judged
-use Rattle.evenodd.specs.declared.shapes.Refusal.{Refusal}
-use Rattle.evenodd.specs.declared.shapes.Refusal.the-variants.{Malformed}
-use Rattle.evenodd.specs.Refusals.{Verdict, pass, refuse, Gives}
-use Rattle.evenodd.specs.Shapes.{shapeRules, Judges, refusalOf}
-use Rattle.evenodd.specs.Maps.{New}
-use Rattle.evenodd.proofs.Rules.{gives-first, gives-next}
-use Rattle.evenodd.proofs.Shape.{judged-refused, after-shape}
+use Rattle.inputs.specs.declared.shapes.Judged.{Judged}
+use Rattle.inputs.specs.declared.shapes.Judged.the-variants as judged
+use Rattle.inputs.specs.declared.shapes.Refusal.{Refusal}
+use Rattle.inputs.specs.declared.shapes.Refusal.the-variants.{Malformed}
+use Rattle.inputs.specs.Refusals.{Verdict, pass, refuse, Gives}
+use Rattle.inputs.specs.Shapes.{shapeRules, Judges, refusalOf}
+use Rattle.inputs.specs.Maps.{New}
+use Rattle.inputs.proofs.Rules.{gives-first, gives-next}
+use Rattle.inputs.proofs.Shape.{judged-refused, after-shape}
 use Rattle.image.specs.declared.answers.Read.the-variants as read
 use Rattle.image.specs.declared.answers.Contents.{Contents}
 use Rattle.image.specs.declared.table.Table.{Table}

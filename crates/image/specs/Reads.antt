@@ -16,11 +16,11 @@ use Prim.Native.Nat.{ℕ, _+_, _*_, _<_}
 use lib.ListN.{length, getD}
 use Rattle.parity.specs.Shape.{stripeLength}
 use Rattle.parity.specs.Presence.{present, differs, Agrees}
-use Rattle.evenodd.specs.declared.maps.Map.{Map}
-use Rattle.evenodd.specs.declared.shapes.Refusal.the-variants.{Malformed, StripeLength}
-use Rattle.evenodd.specs.Refusals.{Verdict, pass, refuse, Rule, Gives}
-use Rattle.evenodd.specs.Shapes.{shapeRules}
-use Rattle.evenodd.specs.Maps.{New}
+use Rattle.inputs.specs.declared.maps.Map.{Map}
+use Rattle.inputs.specs.declared.shapes.Refusal.the-variants.{Malformed, StripeLength}
+use Rattle.inputs.specs.Refusals.{Verdict, pass, refuse, Rule, Gives}
+use Rattle.inputs.specs.Shapes.{shapeRules}
+use Rattle.inputs.specs.Maps.{New}
 use Rattle.image.specs.declared.answers.Read.{Read}
 use Rattle.image.specs.declared.answers.Read.the-variants.{Shape, Refused}
 use Rattle.image.specs.declared.answers.Contents.{Contents}

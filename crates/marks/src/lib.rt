@@ -66,7 +66,6 @@ pub fn find_gaps(places: [bool; 129], n: usize) -> Gaps
 
 // Whether a place from n on is present.
 pub fn has_strays(places: [bool; 129], n: usize) -> bool
-    requires { ⌜ n ≤ 129 ⌝ }
     ensures { λ r. ⌜ (r ≡ true) ↔ PresentFrom n places ⌝ }
 {
     for t in n..129 {

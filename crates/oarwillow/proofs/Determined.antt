@@ -1,8 +1,13 @@
 -- Each call determines what it gives: the proofs of the statements in specs/Determined. The promise of the call below leaves one answer,
 -- and the results are that answer's.
-use Rattle.evenodd.specs.Determined.{EncodesOne, ChecksOne, RestoresOne, MendsOne, OfBytesOne, AsBytesOne, PlacesOne}
-use Rattle.evenodd.proofs.Determined.{of-bytes-one, as-bytes-one, places-one}
-use Rattle.evenodd.proofs.Outcomes.{encodes-one, checks-one, restores-one, mends-one}
+use Rattle.inputs.specs.Determined.{OfBytesOne, AsBytesOne}
+use Rattle.inputs.proofs.Determined.{of-bytes-one, as-bytes-one}
+use Rattle.showing.specs.Determined.{PlacesOne}
+use Rattle.showing.proofs.Determined.{places-one}
+use Rattle.rebuild.specs.Determined.{RestoresOne, MendsOne}
+use Rattle.rebuild.proofs.Determined.{restores-one, mends-one}
+use Rattle.evenodd.specs.Determined.{EncodesOne, ChecksOne}
+use Rattle.evenodd.proofs.Determined.{encodes-one, checks-one}
 use Rattle.image.specs.Determined.{ReadsOne}
 use Rattle.image.proofs.Determined.{reads-one}
 use Rattle.oarwillow.specs.Determined.{EncodeGivesOne, CheckGivesOne, RestoreGivesOne, MendGivesOne, ShowGivesOne, ReadGivesOne}

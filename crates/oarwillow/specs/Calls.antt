@@ -6,18 +6,18 @@ use mathlib.Core.List.{List}
 use Prim.Native.Nat.{ℕ}
 use Rattle.evenodd.specs.declared.checking.Checked.{Checked}
 use Rattle.evenodd.specs.declared.encoding.Encoded.{Encoded}
-use Rattle.evenodd.specs.declared.maps.Map.{Map}
-use Rattle.evenodd.specs.declared.mending.Mended.{Mended}
-use Rattle.evenodd.specs.declared.restoring.Restored.{Restored}
-use Rattle.evenodd.specs.declared.showing.Place.{Place}
-use Rattle.evenodd.specs.Maps.{OfBytes, AsBytes}
+use Rattle.inputs.specs.declared.maps.Map.{Map}
+use Rattle.rebuild.specs.declared.mending.Mended.{Mended}
+use Rattle.rebuild.specs.declared.restoring.Restored.{Restored}
+use Rattle.showing.specs.declared.Place.{Place}
+use Rattle.inputs.specs.Maps.{OfBytes, AsBytes}
 use Rattle.evenodd.specs.Encodes.{Encodes, encoded}
 use Rattle.evenodd.specs.Checks.{Checks, rowsOf, diagonalsOf}
 use Rattle.evenodd.specs.Checks as checks
-use Rattle.evenodd.specs.Restores.{Restores, restored}
-use Rattle.evenodd.specs.Mends.{Mends, columnOf}
-use Rattle.evenodd.specs.Mends as mends
-use Rattle.evenodd.specs.Shows.{Places, placed}
+use Rattle.rebuild.specs.Restores.{Restores, restored}
+use Rattle.rebuild.specs.Mends.{Mends, columnOf}
+use Rattle.rebuild.specs.Mends as mends
+use Rattle.showing.specs.Shows.{Places, placed}
 use Rattle.image.specs.declared.answers.Contents.{Contents}
 use Rattle.image.specs.Reads.{ReadInto, answered, mOf, kOf, bOf}
 use Rattle.oarwillow.specs.Results.{status, countOf, firstOf, secondOf, fromBenchOf, startOf, lengthOf}

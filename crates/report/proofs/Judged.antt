@@ -23,14 +23,14 @@ use borrow.Rule.Slice.PartMut.{putMid}
 use Rattle.parity.specs.Sum.{count}
 use Rattle.parity.specs.Presence.{present, absences}
 use Rattle.cells.proofs.Parts.{by-order}
-use Rattle.evenodd.specs.declared.maps.Map.{Map}
-use Rattle.evenodd.specs.declared.restoring.Restored.the-variants as restored
-use Rattle.evenodd.specs.declared.shapes.Refusal.{Refusal}
-use Rattle.evenodd.specs.declared.shapes.Refusal.the-variants as refusal
-use Rattle.evenodd.specs.Refusals.{Verdict, pass, refuse, Gives}
-use Rattle.evenodd.specs.Maps.{New, Stray, absentBelow}
-use Rattle.evenodd.specs.Restores.{Restores}
-use Rattle.evenodd.proofs.Rules.{passes-not, refuse-one, gives-first, gives-next, gives-one, gives-after, gives-passed}
+use Rattle.inputs.specs.declared.maps.Map.{Map}
+use Rattle.rebuild.specs.declared.restoring.Restored.the-variants as restored
+use Rattle.inputs.specs.declared.shapes.Refusal.{Refusal}
+use Rattle.inputs.specs.declared.shapes.Refusal.the-variants as refusal
+use Rattle.inputs.specs.Refusals.{Verdict, pass, refuse, Gives}
+use Rattle.inputs.specs.Maps.{New, Stray, absentBelow}
+use Rattle.rebuild.specs.Restores.{Restores}
+use Rattle.inputs.proofs.Rules.{passes-not, refuse-one, gives-first, gives-next, gives-one, gives-after, gives-passed}
 use Rattle.image.specs.declared.answers.Read.{Read}
 use Rattle.image.specs.declared.answers.Read.the-variants as read
 use Rattle.image.specs.declared.answers.Contents.{Contents}

@@ -11,17 +11,18 @@ use lib.ListN.{length, take, drop, take-append-drop}
 use lib.Seq.{length-take-le}
 use Rattle.parity.specs.Presence.{absences}
 use Rattle.cells.proofs.Parts.{by-order}
-use Rattle.evenodd.specs.declared.maps.Map.{Map}
-use Rattle.evenodd.specs.declared.restoring.Restored.{Restored}
-use Rattle.evenodd.specs.declared.restoring.Restored.the-variants as restored
-use Rattle.evenodd.specs.declared.shapes.Refusal.{Refusal}
-use Rattle.evenodd.specs.declared.shapes.Refusal.the-variants as refusal
-use Rattle.evenodd.specs.Refusals.{numberOf, Verdict, refuse, Gives}
-use Rattle.evenodd.specs.Restores.{restoreRules, Restores}
-use Rattle.evenodd.specs.Determined.{NewOne, RestoresOne}
-use Rattle.evenodd.proofs.Rules.{passes-not, refuse-one, gives-first, gives-next, gives-one}
-use Rattle.evenodd.proofs.Determined.{new-one}
-use Rattle.evenodd.proofs.Outcomes.{restores-one}
+use Rattle.inputs.specs.declared.maps.Map.{Map}
+use Rattle.rebuild.specs.declared.restoring.Restored.{Restored}
+use Rattle.rebuild.specs.declared.restoring.Restored.the-variants as restored
+use Rattle.inputs.specs.declared.shapes.Refusal.{Refusal}
+use Rattle.inputs.specs.declared.shapes.Refusal.the-variants as refusal
+use Rattle.inputs.specs.Refusals.{numberOf, Verdict, refuse, Gives}
+use Rattle.rebuild.specs.Restores.{restoreRules, Restores}
+use Rattle.inputs.specs.Determined.{NewOne}
+use Rattle.rebuild.specs.Determined.{RestoresOne}
+use Rattle.inputs.proofs.Rules.{passes-not, refuse-one, gives-first, gives-next, gives-one}
+use Rattle.inputs.proofs.Determined.{new-one}
+use Rattle.rebuild.proofs.Determined.{restores-one}
 use Rattle.image.specs.declared.answers.Read.the-variants as read
 use Rattle.image.specs.Reads.{contentsRules, Filled, ReadInto}
 use Rattle.image.specs.Determined.{ReadsOne}

@@ -19,11 +19,11 @@ use Rattle.parity.specs.Shape.{columnLength, stripeLength, benchLength}
 use Rattle.parity.specs.Presence.{present, absences}
 use Rattle.cells.proofs.Parts.{by-order}
 use Rattle.text.specs.Text.{Wrote}
-use Rattle.evenodd.specs.declared.maps.Map.{Map}
-use Rattle.evenodd.specs.declared.shapes.Refusal.the-variants as refusal
-use Rattle.evenodd.specs.Maps.{absentBelow}
-use Rattle.evenodd.proofs.Rules.{passed-first}
-use Rattle.evenodd.proofs.Presence.{absences-below}
+use Rattle.inputs.specs.declared.maps.Map.{Map}
+use Rattle.inputs.specs.declared.shapes.Refusal.the-variants as refusal
+use Rattle.inputs.specs.Maps.{absentBelow}
+use Rattle.inputs.proofs.Rules.{passed-first}
+use Rattle.inputs.proofs.Presence.{absences-below}
 use Rattle.image.specs.Format.{presentBelow}
 use Rattle.image.proofs.Filling.{Good}
 use Rattle.image.proofs.Laid.{image-laid}

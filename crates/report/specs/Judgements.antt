@@ -14,12 +14,12 @@ use lib.ListN.{length, take, drop}
 use Rattle.parity.specs.Shape.{stripeLength, benchLength}
 use Rattle.parity.specs.Stripe.{Valid}
 use Rattle.parity.specs.Presence.{Agrees}
-use Rattle.evenodd.specs.declared.maps.Map.{Map}
-use Rattle.evenodd.specs.declared.shapes.Refusal.{Refusal}
-use Rattle.evenodd.specs.declared.shapes.Refusal.the-variants as refusal
-use Rattle.evenodd.specs.Refusals.{Verdict, pass, refuse, Rule, Gives}
-use Rattle.evenodd.specs.Maps.{New, TooManyAbsent}
-use Rattle.evenodd.specs.Restores.{RestoredFrom}
+use Rattle.inputs.specs.declared.maps.Map.{Map}
+use Rattle.inputs.specs.declared.shapes.Refusal.{Refusal}
+use Rattle.inputs.specs.declared.shapes.Refusal.the-variants as refusal
+use Rattle.inputs.specs.Refusals.{Verdict, pass, refuse, Rule, Gives}
+use Rattle.inputs.specs.Maps.{New, TooManyAbsent}
+use Rattle.rebuild.specs.Restores.{RestoredFrom}
 use Rattle.image.specs.declared.answers.Read.the-variants as read
 use Rattle.image.specs.declared.answers.Contents.{Contents}
 use Rattle.image.specs.Reads.{contentsRules, ContentsOf, Filled}

@@ -9,8 +9,8 @@ use mathlib.Core.List.{List, _++_}
 use Prim.Native.Nat.{ℕ, _+_, _*_, _≤_}
 use lib.ListN.{length, take, drop}
 use Rattle.parity.specs.Shape.{columnLength}
-use Rattle.evenodd.specs.declared.maps.Map.{Map}
-use Rattle.evenodd.specs.Refusals.{numberOf}
+use Rattle.inputs.specs.declared.maps.Map.{Map}
+use Rattle.inputs.specs.Refusals.{numberOf}
 use Rattle.report.specs.declared.lines.Shape.{Shape}
 use Rattle.report.specs.declared.judging.Outcome.{Outcome}
 use Rattle.report.specs.declared.judging.Outcome.the-variants.{Complete, Ambiguous, Contradicted, Refused}

@@ -7,7 +7,7 @@ use mathlib.Core.Logic.{_≢_}
 use mathlib.Core.List.{List}
 use Prim.Native.Nat.{ℕ, _≤_}
 use lib.ListN.{length}
-use Rattle.evenodd.specs.declared.shapes.Refusal.the-variants.{StripeLength, BenchLength}
+use Rattle.inputs.specs.declared.shapes.Refusal.the-variants.{StripeLength, BenchLength}
 use Rattle.report.specs.declared.judging.Outcome.the-variants.{Refused}
 use Rattle.report.specs.declared.judging.Judgement.{Judgement}
 use Rattle.report.specs.Judgements.{JudgesImage}

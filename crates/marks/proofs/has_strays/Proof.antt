@@ -27,13 +27,13 @@ module _ (n t : ℕ) (map : List Bool) (h : Absent n t map) where
       true≢false (sym (p .there) ∙ by-cases (decLt (p .at) t) (λ below. h (p .at) (p .above) below) (λ not. past-all map (p .at) (omega arith)))
 
 abbrev Inv-loop : tie.InvT-loop
-Inv-loop n places t₀ t = (n ≤ t) × (t ≤ 129) × Absent n t places
+Inv-loop n places t₀ t = (n ≤ t) × Absent n t places
 
 abbrev μ-loop : tie.MeasureT-loop
 μ-loop n places t₀ t = 129 - t
 
 loop-holds : tie.Need-loop-holds Inv-loop μ-loop
-loop-holds c = (search needs, search needs, λ x l k. absurd (omega arith))
+loop-holds c = (search needs, λ x l k. absurd (omega arith))
 
 array-read-if1 : tie.Need-array-read-if1 Inv-loop μ-loop
 array-read-if1 c = search needs
@@ -50,13 +50,13 @@ loop-less c = search needs
 
 loop-again : tie.Need-loop-again Inv-loop μ-loop
 unfolding present
-loop-again c = let at = c .before .before in (search needs, search needs, absent-more _ _ (at .before .args .t1) (at .loop .inv .2) (c .if1 .left))
+loop-again c = let at = c .before .before in (search needs, absent-more _ _ (at .before .args .t1) (at .loop .inv .1) (c .if1 .left))
 
 returns-2 : tie.Need-returns-2 Inv-loop μ-loop
 returns-2 c =
     let at = c .before in
     let w = at .before .good .0 in
-    (λ e. absurd (false≢true e), λ p. absurd (absent-all _ _ (at .before .args .t1) (at .loop .inv .2) (omega arith) p))
+    (λ e. absurd (false≢true e), λ p. absurd (absent-all _ _ (at .before .args .t1) (at .loop .inv .1) (omega arith) p))
 
 pub has-strays-spec : {M : Type 1} → statement M
 has-strays-spec =

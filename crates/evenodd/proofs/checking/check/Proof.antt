@@ -3,9 +3,9 @@ use mathlib.Core.List.{[]}
 use lib.ListN.{length}
 use denote.Ref.{now}
 use Rattle.repair.proofs.Asked.{sized}
-use Rattle.evenodd.specs.Tests.{stripeTests}
-use Rattle.evenodd.proofs.Tests.{told-refused, Numbers, stripe-good, stripe-long}
-use Rattle.evenodd.proofs.Stripe.{stripe-passed}
+use Rattle.inputs.specs.Tests.{stripeTests}
+use Rattle.inputs.proofs.Tests.{told-refused, Numbers, stripe-good, stripe-long}
+use Rattle.inputs.proofs.Stripe.{stripe-passed}
 use Rattle.evenodd.proofs.Told.{says-checks}
 use Rattle.evenodd.proofs.checking.check.Statement.{statement}
 use Rattle.evenodd.proofs.checking.check.Tie as tie

@@ -8,9 +8,9 @@ use borrow.Author.Needs.{needs}
 use Rattle.parity.proofs.Columns.{column-same}
 use Rattle.lines.proofs.Cells.{cell-kept}
 use Rattle.repair.proofs.Asked.{sized}
-use Rattle.evenodd.specs.Tests.{stripeTests}
-use Rattle.evenodd.proofs.Tests.{told-refused, Numbers, stripe-good, stripe-long}
-use Rattle.evenodd.proofs.Stripe.{stripe-passed}
+use Rattle.inputs.specs.Tests.{stripeTests}
+use Rattle.inputs.proofs.Tests.{told-refused, Numbers, stripe-good, stripe-long}
+use Rattle.inputs.proofs.Stripe.{stripe-passed}
 use Rattle.evenodd.proofs.encoding.encode.Statement.{statement}
 use Rattle.evenodd.proofs.encoding.encode.Tie as tie
 

@@ -3,7 +3,7 @@ use mathlib.Core.Path.{_≡_, sym, _∙_}
 use borrow.Author.Tests.{not-true, not-false}
 use denote.Ref.{now}
 use Rattle.parity.specs.Shape.{Shape, columnLength}
-use Rattle.evenodd.proofs.Shape.{column-most, places-most, judged-good}
+use Rattle.inputs.proofs.Shape.{column-most, places-most, judged-good}
 use Rattle.image.proofs.Verdicts.{Header, refused-contents, contents-short, contents-fourth, contents-shape, contents-ill, ill-short, ill-entry, ill-length, contents-good}
 use borrow.Author.Needs.{needs}
 use native.Mathlib.Omega.{arith}

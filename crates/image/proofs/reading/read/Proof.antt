@@ -3,7 +3,7 @@ use mathlib.Core.Path.{refl}
 use Prim.Native.Nat.{_+_, _-_}
 use denote.Ref.{now}
 use Rattle.parity.specs.Shape.{columnLength, stripeLength}
-use Rattle.evenodd.proofs.Shape.{column-most, places-most, parts-most}
+use Rattle.inputs.proofs.Shape.{column-most, places-most, parts-most}
 use Rattle.image.proofs.Formed.{formed-bodies}
 use Rattle.image.proofs.Filling.{Good, good-contents, read-refused, read-length, read-good}
 use borrow.Author.Needs.{needs}

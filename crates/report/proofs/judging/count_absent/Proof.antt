@@ -2,8 +2,8 @@
 use mathlib.Core.Path.{_≡_, ap, ap₂, _∙_}
 use mathlib.Core.Bool.{Bool, not, cond}
 use Prim.Native.Nat.{_+_, _-_, _≤_}
-use Rattle.evenodd.specs.Maps.{absentBelow}
-use Rattle.evenodd.proofs.Presence.{below-most}
+use Rattle.inputs.specs.Maps.{absentBelow}
+use Rattle.inputs.proofs.Presence.{below-most}
 use Rattle.report.proofs.Judged.{absent-none, absent-next}
 use borrow.Author.Needs.{needs}
 use native.Mathlib.Omega.{arith}

@@ -3,8 +3,8 @@ use mathlib.Core.Path.{refl}
 use Prim.Native.Nat.{_+_, _*_, _-_}
 use denote.Ref.{now}
 use Rattle.parity.specs.Shape.{columnLength, stripeLength, benchLength}
-use Rattle.evenodd.proofs.Shape.{column-most, places-most, parts-most}
-use Rattle.evenodd.proofs.Presence.{absences-below}
+use Rattle.inputs.proofs.Shape.{column-most, places-most, parts-most}
+use Rattle.inputs.proofs.Presence.{absences-below}
 use Rattle.report.proofs.Judged.{formed-good, part-size, formed-ambiguous, formed-stripe, formed-bench, formed-lent}
 use borrow.Author.Needs.{needs}
 use native.Mathlib.Omega.{arith}

@@ -1,6 +1,6 @@
 -- `report::lines::put_column` meets its contract: what show hands out is the column that is meant, of the length of a column.
 use mathlib.Core.Path.{ap₂}
-use Rattle.evenodd.proofs.Shape.{places-most}
+use Rattle.inputs.proofs.Shape.{places-most}
 use Rattle.report.specs.Lines.{columnLine}
 use Rattle.report.proofs.Shown.{held-shown}
 use Rattle.text.proofs.Writing.{wrote-same}

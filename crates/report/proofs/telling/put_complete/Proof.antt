@@ -3,7 +3,7 @@ use mathlib.Core.Path.{refl}
 use Prim.Native.Nat.{_+_, _*_, _-_}
 use denote.Ref.{now}
 use Rattle.parity.specs.Shape.{columnLength, stripeLength, benchLength}
-use Rattle.evenodd.proofs.Shape.{column-most, places-most, parts-most}
+use Rattle.inputs.proofs.Shape.{column-most, places-most, parts-most}
 use Rattle.text.proofs.Writing.{wrote-then, wrote-same}
 use Rattle.report.proofs.Told.{held-lent, text-lent}
 use borrow.Author.Needs.{needs}

@@ -1,0 +1,89 @@
+-- Each promise determines its result: the proofs of the statements in specs/Determined.
+-- A list of rules gives one verdict, and where it passes the promise says the rest.
+use mathlib.Core.Path.{_≡_, refl, sym, ap, _∙_}
+use mathlib.Core.Logic.{by-cases}
+use mathlib.Core.Bool.{Bool, true, false, cond}
+use mathlib.Core.List.{List}
+use Prim.Native.Nat.{ℕ}
+use native.Mathlib.Decide.{decLt}
+use native.Mathlib.Omega.{arith}
+use lib.Dec.{eqb}
+use lib.Seq.{ext-getD}
+use Rattle.marks.specs.declared.Gaps.{Gaps}
+use Rattle.marks.specs.Absent.{Counts}
+use Rattle.marks.proofs.Absent.{past-all, nth-one}
+use Rattle.inputs.specs.declared.maps.Marked.the-variants as marked
+use Rattle.inputs.specs.declared.shapes.Judged.the-variants as judged
+use Rattle.inputs.specs.Shapes.{shapeRules}
+use Rattle.inputs.specs.Maps.{placeRules}
+use Rattle.inputs.specs.Determined.{JudgesOne, NewOne, OfBytesOne, AsBytesOne, MarksOne, MarkedTwice, JudgesPlaceOne, FindsGapsOne, FindsStraysOne}
+use Rattle.inputs.proofs.Rules.{passes-not, refuse-one, gives-one}
+use Rattle.inputs.proofs.Presence.{same-map}
+
+pub judges-one : JudgesOne
+unfolding JudgesOne
+judges-one m k b (judged.Good c) (judged.Good d) x y = ap judged.Good (x .column ∙ sym (y .column))
+judges-one m k b (judged.Good c) (judged.Refused g) x y = absurd (passes-not g (gives-one (shapeRules m k b) _ _ (x .told) (y .told)))
+judges-one m k b (judged.Refused f) (judged.Good d) x y = absurd (passes-not f (gives-one (shapeRules m k b) _ _ (y .told) (x .told)))
+judges-one m k b (judged.Refused f) (judged.Refused g) x y = ap judged.Refused (refuse-one f g (gives-one (shapeRules m k b) _ _ (x .told) (y .told)))
+
+pub new-one : NewOne
+unfolding NewOne
+new-one r q x y = same-map r q (x .whole) (y .whole) (λ t. x .absent t ∙ sym (y .absent t))
+
+pub of-bytes-one : OfBytesOne
+unfolding OfBytesOne
+of-bytes-one bytes r q x y = same-map r q (x .whole) (y .whole) (λ t.
+    by-cases (decLt t 129)
+    (λ l. x .at t l ∙ sym (y .at t l))
+    (λ n. past-all (r .places) t (let w = x .whole in omega arith) ∙ sym (past-all (q .places) t (let w = y .whole in omega arith))))
+
+pub as-bytes-one : AsBytesOne
+unfolding AsBytesOne
+as-bytes-one map x y p q = ext-getD 0 x y (p .whole ∙ sym (q .whole)) (λ t l. let w = p .whole in p .at t (omega arith) ∙ sym (q .at t (omega arith)))
+
+pub marks-one : MarksOne
+unfolding MarksOne
+marks-one state before place r q x y =
+    by-cases (decLt place 129)
+    (λ l. same-map r q (x .whole) (y .whole) (λ t. x .done l t ∙ sym (y .done l t)))
+    (λ n. x .kept (omega arith) ∙ sym (y .kept (omega arith)))
+
+pub marked-twice : MarkedTwice
+unfolding MarkedTwice
+marked-twice state before place once twice x y =
+    by-cases (decLt place 129)
+    (λ l. same-map twice once (y .whole) (x .whole) (λ t. again (eqb t place) _ _ _ (x .done l t) (y .done l t)))
+    (λ n. y .kept (omega arith))
+  where
+    again : (b : Bool) (u v w : Bool) → v ≡ cond b state u → w ≡ cond b state v → w ≡ v
+    again true u v w p q = q ∙ sym p
+    again false u v w p q = q
+
+pub judges-place-one : JudgesPlaceOne
+unfolding JudgesPlaceOne
+judges-place-one place marked.Done marked.Done x y = refl
+judges-place-one place marked.Done (marked.Refused g) x y = absurd (passes-not g (gives-one (placeRules place) _ _ (x .told) (y .told)))
+judges-place-one place (marked.Refused f) marked.Done x y = absurd (passes-not f (gives-one (placeRules place) _ _ (y .told) (x .told)))
+judges-place-one place (marked.Refused f) (marked.Refused g) x y = ap marked.Refused (refuse-one f g (gives-one (placeRules place) _ _ (x .told) (y .told)))
+
+counts-one : (n : ℕ) (map : List Bool) (r q : Gaps) → Counts n map r → Counts n map q → r ≡ q
+counts-one n map r q x y =
+    let first : r .first ≡ q .first = nth-one n 0 map (r .first) (q .first) (x .first) (y .first) in
+    let second : r .second ≡ q .second = nth-one n 1 map (r .second) (q .second) (x .second) (y .second) in
+    let count : r .count ≡ q .count = x .count ∙ sym (y .count) in
+    λ i. record { count = count i; first = first i; second = second i }
+
+pub finds-gaps-one : FindsGapsOne
+unfolding FindsGapsOne
+finds-gaps-one map n r q x y =
+    by-cases (decLt 129 n)
+    (λ l. counts-one 129 (map .places) r q (x .all l) (y .all l))
+    (λ m. counts-one n (map .places) r q (x .some (omega arith)) (y .some (omega arith)))
+
+pub finds-strays-one : FindsStraysOne
+unfolding FindsStraysOne
+finds-strays-one map n true true x y = refl
+finds-strays-one map n true false x y = sym (y .1 (x .0 refl))
+finds-strays-one map n false true x y = x .1 (y .0 refl)
+finds-strays-one map n false false x y = refl

@@ -1,0 +1,7 @@
+-- Laws that belong to no one function.
+pub mod Rules
+pub mod Shape
+pub mod Stripe
+pub mod Tests
+pub mod Presence
+pub mod Determined

@@ -1,0 +1,74 @@
+-- Laws of `Gives`: which verdict a list of rules gives.
+--   gives-first, gives-next     the first rule's condition holds; it does not, and the others give the verdict
+--   passes-not                  a pass is no refusal
+--   passed-first, equal-of      a list of rules passes: the first rule's condition fails, and the others pass
+--   passes-not, refuse-one      a pass is no refusal, and one refusal is no other
+--   gives-one                   a list of rules gives one verdict
+--   gives-refused, gives-after  of two lists in a row: the first refuses; it passes, and the second gives the verdict
+--   Alike, gives-alike          two lists whose conditions say the same give the same
+--   gives-passed                two lists in a row pass: each does
+use mathlib.Core.Path.{_≡_, refl, sym, ap, _∙_}
+use mathlib.Core.Logic.{_≢_, _⊎_, inl, inr, by-cases, _↔_}
+use mathlib.Core.List.{List, [], _∷_, _++_}
+use Prim.Native.Nat.{ℕ}
+use native.Mathlib.Decide.{ℕ-discrete}
+use native.Mathlib.Omega.{arith}
+use Rattle.inputs.specs.declared.shapes.Refusal.{Refusal}
+use Rattle.inputs.specs.Refusals.{Verdict, pass, refuse, Rule, Gives}
+
+pub passes-not : (f : Refusal) → pass ≡ refuse f → ⊥
+passes-not f e = let z : _≡_ {A = ℕ} 0 1 = cc in omega arith
+
+pub refuse-one : (f g : Refusal) → refuse f ≡ refuse g → f ≡ g
+refuse-one f g e = cc
+
+-- these three are stated in the form to which `Gives (rule ∷ rules) v` computes
+pub gives-first : {C R : Type 0} {f : Refusal} → C → (C × (refuse f ≡ refuse f)) ⊎ R
+gives-first h = inl (h, refl)
+
+pub gives-next : {C R : Type 0} {v w : Verdict} → (C → ⊥) → R → (C × (v ≡ w)) ⊎ ((C → ⊥) × R)
+gives-next n g = inr (n, g)
+
+pub passed-first : {C R : Type 0} {f : Refusal} → (C × (pass ≡ refuse f)) ⊎ ((C → ⊥) × R) → (C → ⊥) × R
+passed-first (inl p) = absurd (passes-not _ (p .1))
+passed-first (inr p) = p
+
+-- where a rule refuses numbers that differ and is not met, they are equal
+pub equal-of : (x y : ℕ) → (x ≢ y → ⊥) → x ≡ y
+equal-of x y n = by-cases (ℕ-discrete x y) (λ e. e) (λ f. absurd (n f))
+
+pub gives-one : (rules : List Rule) (v w : Verdict) → Gives rules v → Gives rules w → v ≡ w
+gives-one [] v w p q = p ∙ sym q
+gives-one (r ∷ rules) v w (inl p) (inl q) = p .1 ∙ sym (q .1)
+gives-one (r ∷ rules) v w (inl p) (inr q) = absurd (q .0 (p .0))
+gives-one (r ∷ rules) v w (inr p) (inl q) = absurd (p .0 (q .0))
+gives-one (r ∷ rules) v w (inr p) (inr q) = gives-one rules v w (p .1) (q .1)
+
+pub gives-refused : (rules more : List Rule) (f : Refusal) → Gives rules (refuse f) → Gives (rules ++ more) (refuse f)
+gives-refused [] more f g = absurd (passes-not f (sym g))
+gives-refused (r ∷ rules) more f (inl p) = inl p
+gives-refused (r ∷ rules) more f (inr p) = inr (p .0, gives-refused rules more f (p .1))
+
+pub gives-after : (rules more : List Rule) (v : Verdict) → Gives rules pass → Gives more v → Gives (rules ++ more) v
+gives-after [] more v g h = h
+gives-after (r ∷ rules) more v (inl p) h = absurd (passes-not (r .refusal) (p .1))
+gives-after (r ∷ rules) more v (inr p) h = inr (p .0, gives-after rules more v (p .1) h)
+
+pub gives-passed : (rules more : List Rule) → Gives (rules ++ more) pass → Gives rules pass × Gives more pass
+gives-passed [] more g = (refl, g)
+gives-passed (r ∷ rules) more (inl p) = absurd (passes-not (r .refusal) (p .1))
+gives-passed (r ∷ rules) more (inr p) = let (first, second) = gives-passed rules more (p .1) in (inr (p .0, first), second)
+
+-- two lists whose conditions say the same give the same
+abbrev pub Alike : List Rule → List Rule → Type 0
+Alike [] [] = Unit {0}
+Alike [] (q ∷ qs) = ⊥
+Alike (r ∷ rs) [] = ⊥
+Alike (r ∷ rs) (q ∷ qs) = (r .condition ↔ q .condition) × (r .refusal ≡ q .refusal) × Alike rs qs
+
+pub gives-alike : (rules more : List Rule) (v : Verdict) → Alike rules more → Gives rules v → Gives more v
+gives-alike [] [] v a g = g
+gives-alike [] (q ∷ qs) v a g = absurd a
+gives-alike (r ∷ rs) [] v a g = absurd a
+gives-alike (r ∷ rs) (q ∷ qs) v a (inl p) = inl (a .0 .0 (p .0), p .1 ∙ ap refuse (a .1))
+gives-alike (r ∷ rs) (q ∷ qs) v a (inr p) = inr (λ c. p .0 (a .0 .1 c), gives-alike rs qs v (a .2) (p .1))

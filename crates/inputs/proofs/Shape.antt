@@ -1,0 +1,52 @@
+-- What the shape check decides, and the numbers of a good shape.
+--   column-most, places-most, parts-most    a column is at most 516,096 bytes, there are at most 129, and together 66,576,384 bytes
+--   judges-..              what the shape check says of three numbers
+--   judged-good            where it says that the shape is good
+--   judged-refused         where it refuses, its refusal is that of every list of rules that begins with the shape's
+--   after-shape            a list of rules that begins with the shape's: of a shape, the others give the verdict
+--   passed-shape           where it passes, the three numbers are a shape, and the others pass
+use mathlib.Core.Path.{_≡_, refl, _∙_}
+use mathlib.Core.Logic.{inl, inr}
+use mathlib.Core.List.{List, _++_}
+use Prim.Native.Nat.{ℕ}
+use native.Mathlib.Omega.{arith}
+use Rattle.parity.specs.Shape.{Shape, columnLength}
+use Rattle.parity.proofs.Shapes.{shape-of}
+pub use Rattle.parity.proofs.Shapes.{column-most, places-most, parts-most}
+use Rattle.inputs.specs.declared.shapes.Judged.{Judged}
+use Rattle.inputs.specs.declared.shapes.Judged.the-variants.{Good, Refused}
+use Rattle.inputs.specs.declared.shapes.Refusal.{Refusal}
+use Rattle.inputs.specs.declared.shapes.Refusal.the-variants as refusal
+use Rattle.inputs.specs.Refusals.{Verdict, pass, refuse, Rule, Gives}
+use Rattle.inputs.specs.Shapes.{shapeRules, Judges, refusalOf}
+use Rattle.inputs.proofs.Rules.{gives-first, gives-next, passes-not, gives-refused, gives-after, gives-passed}
+
+module _ (m k b : ℕ) where
+  -- the shape's rules let exactly the shapes pass
+  shape-passes : Shape m k b → Gives (shapeRules m k b) pass
+  shape-passes s = gives-next (λ n. n s) refl
+
+  passes-shape : Gives (shapeRules m k b) pass → Shape m k b
+  passes-shape (inl p) = absurd (passes-not refusal.Shape (p .1))
+  passes-shape (inr p) = shape-of m k b (p .0)
+
+  pub judges-bad : (Shape m k b → ⊥) → Judges m k b (Refused refusal.Shape)
+  judges-bad n = record { told = gives-first n; column = tt }
+
+  pub judges-good : Shape m k b → Judges m k b (Good (columnLength m b))
+  judges-good s = record { told = shape-passes s; column = refl }
+
+  pub judged-good : (j : Judged) {c : ℕ} → Judges m k b j → j ≡ Good c → Shape m k b × (c ≡ columnLength m b)
+  judged-good (Good d) {c} h e = let q : c ≡ d = cc in (passes-shape (h .told), q ∙ h .column)
+  judged-good (Refused f) h e = absurd (let z : _≡_ {A = ℕ} 0 1 = cc in omega arith)
+
+  module _ (rules : List Rule) where
+    pub judged-refused : (j : Judged) {f g : Refusal} → Judges m k b j → j ≡ Refused f → g ≡ refusalOf j → Gives (shapeRules m k b ++ rules) (refuse g)
+    judged-refused (Good d) h e q = absurd (let z : _≡_ {A = ℕ} 0 1 = cc in omega arith)
+    judged-refused (Refused f) h e q = rw q (gives-refused (shapeRules m k b) rules f (h .told))
+
+    pub after-shape : (v : Verdict) → Shape m k b → Gives rules v → Gives (shapeRules m k b ++ rules) v
+    after-shape v s = gives-after (shapeRules m k b) rules v (shape-passes s)
+
+    pub passed-shape : Gives (shapeRules m k b ++ rules) pass → Shape m k b × Gives rules pass
+    passed-shape g = let (first, second) = gives-passed (shapeRules m k b) rules g in (passes-shape first, second)

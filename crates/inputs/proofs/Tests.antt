@@ -1,0 +1,108 @@
+-- Laws of the tests that the calls share.
+--   passed-on, told-refused  a refusal is that of every list of rules that begins with the tests
+--   told-passed              a good shape passes them
+--   Numbers, stripe-good     what is known where the numbers and the stripe's length are right
+--   Lent, lent-good          and where the bench's length and the map are right too
+--   FewAbsent, gaps-good     and where at most two columns are absent
+--   gaps-refused             where one of these is not so
+use mathlib.Core.Path.{_≡_, sym, ap, _∙_}
+use mathlib.Core.Bool.{Bool}
+use mathlib.Core.List.{List, _++_}
+use Prim.Native.Nat.{ℕ, _+_, _*_, _≤_}
+use native.Mathlib.Omega.{arith}
+use Rattle.parity.specs.Shape.{Shape, columnLength, stripeLength, benchLength}
+use Rattle.parity.specs.Presence.{absences}
+use Rattle.marks.specs.declared.Gaps.{Gaps}
+use Rattle.marks.specs.Absent.{Counts}
+use Rattle.inputs.specs.declared.lent.Given.{Given}
+use Rattle.inputs.specs.declared.lent.Given.the-variants as given
+use Rattle.inputs.specs.declared.shapes.Judged.{Judged}
+use Rattle.inputs.specs.declared.shapes.Judged.the-variants.{Good, Refused}
+use Rattle.inputs.specs.declared.shapes.Refusal.{Refusal}
+use Rattle.inputs.specs.Refusals.{pass, refuse, Rule, Gives}
+use Rattle.inputs.specs.Shapes.{judged, goodColumn, refusalOf}
+use Rattle.inputs.specs.Maps.{Stray}
+use Rattle.inputs.specs.Tests as tests
+use Rattle.inputs.specs.Tests.{lengthTest, stripeTests, JudgesStripe, lentTests, JudgesLent, fewTests, JudgesGaps}
+use Rattle.inputs.proofs.Rules.{gives-refused, gives-passed, passed-first, equal-of}
+use Rattle.inputs.proofs.Shape.{passed-shape}
+
+module _ (rules more : List Rule) where
+  pub passed-on : (j : Judged) {f : Refusal} → Gives rules (judged j) → j ≡ Refused f → Gives (rules ++ more) (judged j)
+  passed-on (Good d) h e = absurd (let z : _≡_ {A = ℕ} 0 1 = cc in omega arith)
+  passed-on (Refused f) h e = gives-refused rules more f h
+
+  pub told-refused : (j : Judged) {f g : Refusal} → Gives rules (judged j) → j ≡ Refused f → g ≡ refusalOf j → Gives (rules ++ more) (refuse g)
+  told-refused (Good d) h e q = absurd (let z : _≡_ {A = ℕ} 0 1 = cc in omega arith)
+  told-refused (Refused f) h e q = rw q (gives-refused rules more f h)
+
+pub told-passed : (rules : List Rule) (j : Judged) {c : ℕ} → Gives rules (judged j) → j ≡ Good c → Gives rules pass
+told-passed rules (Good d) h e = h
+told-passed rules (Refused f) h e = absurd (let z : _≡_ {A = ℕ} 0 1 = cc in omega arith)
+
+good-column : (m b : ℕ) (j : Judged) {c : ℕ} → goodColumn m b j → j ≡ Good c → c ≡ columnLength m b
+good-column m b (Good d) {c} h e = let q : c ≡ d = cc in q ∙ h
+good-column m b (Refused f) h e = absurd (let z : _≡_ {A = ℕ} 0 1 = cc in omega arith)
+
+pub record Numbers (m k b n c : ℕ) : Type 0 where
+  pub shape : Shape m k b
+  pub column : c ≡ columnLength m b
+  pub stripe : n ≡ stripeLength m k b
+
+-- and so the stripe's length, by the column's
+pub stripe-long : {m k b n c : ℕ} → Numbers m k b n c → n ≡ (k + 2) * c
+unfolding stripeLength
+stripe-long {k = k} p = p .stripe ∙ sym (ap (λ (x : ℕ). (k + 2) * x) (p .column))
+
+module _ (m k b n : ℕ) where
+  numbers : {c : ℕ} → Gives (stripeTests m k b n) pass → c ≡ columnLength m b → Numbers m k b n c
+  numbers g e =
+      let (shape, rest) = passed-shape m k b (lengthTest m k b n) g in
+      record { shape = shape; column = e; stripe = equal-of _ _ (passed-first rest .0) }
+
+  pub stripe-good : (j : Judged) {c : ℕ} → JudgesStripe m k b n j → j ≡ Good c → Numbers m k b n c
+  stripe-good j h e = numbers (told-passed (stripeTests m k b n) j (h .told) e) (good-column m b j (h .column) e)
+
+  module _ (map : List Bool) (w : ℕ) where
+    pub record Lent (c : ℕ) : Type 0 where
+      pub tests : Gives (stripeTests m k b n ++ lentTests m k b map w) pass
+      pub numbers : Numbers m k b n c
+      pub held : w ≡ benchLength m b
+      pub clear : Stray k map → ⊥
+
+    pub lent-good : (j : Judged) {c : ℕ} → JudgesLent m k b map n w j → j ≡ Good c → Lent c
+    lent-good j h e =
+        let all = told-passed (stripeTests m k b n ++ lentTests m k b map w) j (h .told) e in
+        let (first, second) = gives-passed (stripeTests m k b n) (lentTests m k b map w) all in
+        let (held, rest) = passed-first second in
+        record {
+          tests = all;
+          numbers = numbers first (good-column m b j (h .column) e);
+          held = equal-of _ _ held;
+          clear = passed-first rest .0;
+        }
+
+    -- all of that, and the absent columns
+    pub record FewAbsent (c : ℕ) (gaps : Gaps) : Type 0 where
+      pub lent : Lent c
+      pub tests : Gives ((stripeTests m k b n ++ lentTests m k b map w) ++ fewTests k map) pass
+      pub few : absences k map ≤ 2
+      pub counts : Counts (k + 2) map gaps
+
+    pub gaps-good : (j : Given) {c : ℕ} {gaps : Gaps} → JudgesGaps m k b map n w j → j ≡ given.Good c gaps → FewAbsent c gaps
+    gaps-good (given.Good d g) {c} {gaps} h e =
+        let column : c ≡ d = cc in
+        let same : gaps ≡ g = cc in
+        let (lent, few) = gives-passed (stripeTests m k b n ++ lentTests m k b map w) (fewTests k map) (h .told) in
+        record {
+          lent = lent-good (Good d) (record { told = lent; column = h .good .0 }) (ap Good (sym column));
+          tests = h .told;
+          few = let (not-many, _) = passed-first few in omega arith;
+          counts = rw same (h .good .1);
+        }
+    gaps-good (given.Refused f) h e = absurd (let z : _≡_ {A = ℕ} 0 1 = cc in omega arith)
+
+    pub gaps-refused : (more : List Rule) (j : Given) {f g : Refusal} → JudgesGaps m k b map n w j → j ≡ given.Refused f → g ≡ tests.refusalOf j
+        → Gives (((stripeTests m k b n ++ lentTests m k b map w) ++ fewTests k map) ++ more) (refuse g)
+    gaps-refused more (given.Good d x) h e q = absurd (let z : _≡_ {A = ℕ} 0 1 = cc in omega arith)
+    gaps-refused more (given.Refused f) h e q = rw q (gives-refused ((stripeTests m k b n ++ lentTests m k b map w) ++ fewTests k map) more f (h .told))

@@ -1,0 +1,41 @@
+-- Each promise determines its result: two results that meet it are equal. Each statement is a type, which proofs/Determined inhabits.
+-- What `is_present` and `number` promise is an equation, so there is nothing to say of them.
+--   JudgesOne, NewOne, OfBytesOne, AsBytesOne, MarksOne, JudgesPlaceOne, FindsGapsOne, FindsStraysOne    the promise of each call
+--   MarkedTwice    marking twice equals marking once
+use mathlib.Core.Path.{_≡_}
+use mathlib.Core.Bool.{Bool}
+use mathlib.Core.List.{List}
+use Prim.Native.Nat.{ℕ}
+use Rattle.marks.specs.declared.Gaps.{Gaps}
+use Rattle.inputs.specs.declared.maps.Map.{Map}
+use Rattle.inputs.specs.declared.maps.Marked.{Marked}
+use Rattle.inputs.specs.declared.shapes.Judged.{Judged}
+use Rattle.inputs.specs.Shapes.{Judges}
+use Rattle.inputs.specs.Maps.{New, OfBytes, AsBytes, Marks, JudgesPlace, FindsGaps, FindsStrays}
+
+unfoldable pub JudgesOne : Type 0
+JudgesOne = (m k b : ℕ) (r q : Judged) → Judges m k b r → Judges m k b q → r ≡ q
+
+unfoldable pub NewOne : Type 0
+NewOne = (r q : Map) → New r → New q → r ≡ q
+
+unfoldable pub OfBytesOne : Type 0
+OfBytesOne = (bytes : List ℕ) (r q : Map) → OfBytes bytes r → OfBytes bytes q → r ≡ q
+
+unfoldable pub AsBytesOne : Type 0
+AsBytesOne = (map : Map) (x y : List ℕ) → AsBytes map x → AsBytes map y → x ≡ y
+
+unfoldable pub MarksOne : Type 0
+MarksOne = (state : Bool) (before : Map) (place : ℕ) (r q : Map) → Marks state before place r → Marks state before place q → r ≡ q
+
+unfoldable pub MarkedTwice : Type 0
+MarkedTwice = (state : Bool) (before : Map) (place : ℕ) (once twice : Map) → Marks state before place once → Marks state once place twice → twice ≡ once
+
+unfoldable pub JudgesPlaceOne : Type 0
+JudgesPlaceOne = (place : ℕ) (r q : Marked) → JudgesPlace place r → JudgesPlace place q → r ≡ q
+
+unfoldable pub FindsGapsOne : Type 0
+FindsGapsOne = (map : Map) (n : ℕ) (r q : Gaps) → FindsGaps map n r → FindsGaps map n q → r ≡ q
+
+unfoldable pub FindsStraysOne : Type 0
+FindsStraysOne = (map : Map) (n : ℕ) (r q : Bool) → FindsStrays map n r → FindsStrays map n q → r ≡ q

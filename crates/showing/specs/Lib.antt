@@ -1,0 +1,3 @@
+-- What place_of and show promise.
+pub mod Shows
+pub mod Determined
