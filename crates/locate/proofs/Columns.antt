@@ -3,12 +3,14 @@
 --   whether-zero                what a test for zero tells
 --   column-zero, zero-column    bytes or-ed together are zero exactly where every lane of every row is
 --   summed                      what a column differs by from a line, when the two were summed
+--   turned-end                  where the cell that turns to row m - 1 ends
 --   seed-turned, row-turned     a cell, and a row, of a column that is turned by u
 --   turned-first, turned-other  so is a column that was set, for u = 0 and for other u
 --   turned-tells                what a column tells of which every byte should be zero
 --   picked-rows, picked-diagonals   a lane that was picked
 --   blames-same                 the same amounts by another name
 use mathlib.Core.Path.{_≡_, refl, sym, ap, ap₂, _∙_, subst}
+use mathlib.Core.Logic.{_≢_}
 use mathlib.Core.Bool.{true≢false}
 use mathlib.Core.List.{List}
 use Prim.Native.Nat.{ℕ, _+_, _*_, _-_, _/_, _%_, _≤_, _<_}
@@ -16,7 +18,8 @@ use native.Mathlib.Nat.{mod-lt, mod-add-div', div-mul-le-self, mul-le-mul-right}
 use native.Mathlib.Decide.{decLt}
 use native.Mathlib.Omega.{arith}
 use lib.Dec.{eqb}
-use lib.ListN.{length, getD, set, getD-set-same, getD-set-other}
+use lib.ListN.{length, getD, set}
+use lib.Seq.{getD-set-same, getD-set-other}
 use borrow.Author.Tests.{eq-eqb, eqb-true}
 use Rattle.parity.specs.Xor.{_⊕_}
 use Rattle.parity.specs.Equations.{back}
@@ -25,9 +28,9 @@ use Rattle.parity.proofs.Xor.{⊕-self, ⊕-comm, ⊕-eq, zero-⊕}
 use Rattle.cells.specs.Runs.{Put, Tells}
 use Rattle.cells.proofs.Parts.{part, part-at, parts-end, by-order}
 use Rattle.cells.proofs.Puts.{put-start}
-use Rattle.lines.specs.Lines.{real, span, rest}
+use Rattle.lines.specs.Lines.{real, span, rest, Sized}
 use Rattle.lines.specs.Rows.{Lined}
-use Rattle.lines.proofs.Lines.{up-straight, back-none, real-in, real-out, back-lt}
+use Rattle.lines.proofs.Lines.{column-is, up-straight, back-none, real-in, real-out, back-lt}
 use Rattle.lines.proofs.Rows.{Grown, lined-same, lined-grown}
 use Rattle.lines.proofs.Amounts.{cell-span}
 use Rattle.lines.proofs.Equations.{rest-span}
@@ -79,6 +82,9 @@ summed m b s seed e k t p q = lined-same (lined-grown (m - 1) b 0 (λ i l. span 
 
 -- ---- turned by u rows
 
+pub turned-end : {m b c : ℕ} → Sized m b c → (u : ℕ) → u ≢ 0 → u < m → (m - 1 - u) * b + b ≤ c
+turned-end {m} {b} {c} z u some h = let low : m - 1 - u < m - 1 = omega arith in omega (arith, parts-end b low, column-is m b c z)
+
 module _ (m b : ℕ) (x : List ℕ) where
   seed-turned : (u l : ℕ) → 0 < u → u < m → l < b → getD (part x ((m - 1 - u) * b) ((m - 1 - u) * b + b)) l 0 ≡ rowsAt m b x l (back m (m - 1) u)
   seed-turned u l some h hl =
@@ -126,7 +132,7 @@ module _ (m b u : ℕ) (x y w v z : List ℕ) (big : 1 < m) (p : Lined (m - 1) b
 module _ (m b : ℕ) (x : List ℕ) (l : ℕ) {w v : List ℕ} where
   pub picked-rows : m - 1 < length w → Put w v 0 (m - 1) (λ i. getD x (i * b + l) 0) → (i : ℕ) → i < m → getD (set v (m - 1) 0) i 0 ≡ rowsAt m b x l i
   picked-rows room p i hi = elim (decLt i (m - 1)) [
-    | yes h ↦ getD-set-other v 0 0 (λ (e : i ≡ m - 1). absurd (omega arith)) ∙ put-start p i h ∙ lane-at i ∙ sym (real-in m (lane m b x l) i 0 h)
+    | yes h ↦ getD-set-other v (m - 1) i 0 0 (λ e. absurd (omega arith)) ∙ put-start p i h ∙ lane-at i ∙ sym (real-in m (lane m b x l) i 0 h)
     | no h ↦ let e : i ≡ m - 1 = omega arith in
         ap (λ (q : ℕ). getD (set v (m - 1) 0) q 0) e ∙ getD-set-same v (m - 1) 0 0 (omega (arith, p .size)) ∙ sym (real-out m (lane m b x l) i 0 (omega arith))
   ]

@@ -35,9 +35,9 @@ module _ (m k b : ℕ) (few : k ≤ m) (s : List ℕ) where
     | no h ↦ real-out m (lane m b x l) i 0 (omega arith) ∙ sym (row-amount-last m k (lane m b s l) i (omega arith))
   ]
 
-  pub diagonals-are : {w y x : List ℕ} → 1 < m → ((l : ℕ) → l < b → getD x l 0 ≡ line m (lane m b s l) 1 (m - 1) k)
+  pub diagonals-are : {w y : List ℕ} (x : List ℕ) → 1 < m → ((l : ℕ) → l < b → getD x l 0 ≡ line m (lane m b s l) 1 (m - 1) k)
       → Lined (m - 1) b 0 w y (λ i l. rest x m (lane m b s l) 1 i k (k + 1) l) → (l i : ℕ) → l < b → i < m - 1 → diagonalsAt m b y l i ≡ amountD m k (lane m b s l) i
-  diagonals-are {y = y} {x} big so p l i hl hi = first-at m b y i l ∙ p .inside i l hi hl ∙ rest-d m k few (lane m b s l) big x l i hi (so l hl)
+  diagonals-are {y = y} x big so p l i hl hi = first-at m b y i l ∙ p .inside i l hi hl ∙ rest-d m k few (lane m b s l) big x l i hi (so l hl)
 
 module _ (m k b : ℕ) (few : k ≤ m) (odd : m % 2 ≡ 1) (prime : Prime m) (s x y : List ℕ)
     (rows : (l i : ℕ) → l < b → i < m → rowsAt m b x l i ≡ rowAmount m k (lane m b s l) i)

@@ -1,6 +1,7 @@
 -- `locate::fits_everywhere` meets its contract, by kind of column.
 use mathlib.Core.Path.{_≡_, sym, _∙_, subst}
-use Prim.Native.Nat.{ℕ, _+_}
+use Prim.Native.Nat.{_+_, _*_, _-_, _<_}
+use lib.ListN.{length}
 use denote.Ref.{now}
 use Rattle.parity.specs.Stripe.{lane}
 use Rattle.lines.proofs.Lines.{column-is, real-in}
@@ -37,8 +38,8 @@ returns-2 c =
     let z = c .before .before .before .before .before .before in
     let a = z .args in
     let y = now (a .y) in
-    let full = omega (arith, z .pre .5 .filled) in
-    let long = omega (arith, z .pre .2, column-is (a .g .m) (a .g .b) (a .g .column) (z .pre .5)) in
+    let full : 0 < a .g .b = omega (arith, z .pre .5 .filled) in
+    let long : length y ≡ (a .g .m - 1) * a .g .b = omega (arith, z .pre .2, column-is (a .g .m) (a .g .b) (a .g .column) (z .pre .5)) in
     let e = c .before .if2 .taken in
     whether-zero (c .any .result)
     (λ none l hl. subst (Fit (a .g .m) (a .k) (rowsAt (a .g .m) (a .g .b) (now (a .x)) l) (diagonalsAt (a .g .m) (a .g .b) y l)) (sym e)
@@ -53,8 +54,8 @@ returns-3 c =
     let z = c .before .before .before .before .before .before in
     let a = z .args in
     let x = now (a .x) in
-    let full = omega (arith, z .pre .5 .filled) in
-    let long = omega (arith, z .pre .1, column-is (a .g .m) (a .g .b) (a .g .column) (z .pre .5)) in
+    let full : 0 < a .g .b = omega (arith, z .pre .5 .filled) in
+    let long : length x ≡ (a .g .m - 1) * a .g .b = omega (arith, z .pre .1, column-is (a .g .m) (a .g .b) (a .g .column) (z .pre .5)) in
     let e : a .u ≡ a .k + 1 = omega (arith, z .pre .3, c .before .if2 .left, c .before .before .if1 .left) in
     whether-zero (c .any2 .result)
     (λ none l hl. subst (Fit (a .g .m) (a .k) (rowsAt (a .g .m) (a .g .b) x l) (diagonalsAt (a .g .m) (a .g .b) (now (a .y)) l)) (sym e)

@@ -1,11 +1,8 @@
 -- `locate::judge_picked` meets its contract: the amounts of lane l are picked, with a zero for the imaginary row.
-use mathlib.Core.Path.{sym, ap, _∙_}
-use Prim.Native.Nat.{_+_, _*_, _-_}
-use native.Mathlib.Decide.{decLt}
-use lib.ListN.{getD, length-set, getD-set-same, getD-set-other}
+use Prim.Native.Nat.{_-_}
+use lib.ListN.{length-set}
+use lib.Seq.{getD-set-same}
 use denote.Ref.{now}
-use Rattle.parity.specs.Stripe.{lane}
-use Rattle.cells.proofs.Puts.{put-start}
 use Rattle.lines.proofs.Lines.{column-is, column-most}
 use Rattle.locate.specs.Locate.{rowsAt, diagonalsAt}
 use Rattle.locate.proofs.Columns.{blames-same, picked-rows, picked-diagonals}
