@@ -1,6 +1,5 @@
 -- What mend does once the numbers and the length are right.
 --   Blamed     all that is known then
---   Sure       some lane breaks, and no column but u can be the wrong one
 --   Patched    column u was the wrong one, and was rewritten
 --   Patches    the stripe is sound; or patched; or no column alone is wrong, and nothing was written
 use mathlib.Core.Path.{_≡_}
@@ -19,11 +18,6 @@ pub record Blamed (g : Grid) (k : ℕ) (s : List ℕ) : Type 0 where
   pub shape : Shape (g .m) k (g .b)
   pub column : g .column ≡ columnLength (g .m) (g .b)
   pub stripe : length s ≡ stripeLength (g .m) k (g .b)
-
-pub record Sure (m k b : ℕ) (s : List ℕ) (u : ℕ) : Type 0 where
-  pub broken : Sound m k b s → ⊥
-  pub inside : u < k + 2
-  pub only : (x : ℕ) → x < k + 2 → FitsBut m k b x s → x ≡ u
 
 pub record Patched (m k b u : ℕ) (before after : List ℕ) : Type 0 where
   pub broken : Sound m k b before → ⊥

@@ -3,7 +3,7 @@ use blame::Suspect;
 use lines::Grid;
 use marks::Gaps;
 ghost use Rattle.repair.specs.Fills.{Gapped, Fills};
-ghost use Rattle.repair.specs.Patches.{Blamed, Sure, Patches};
+ghost use Rattle.repair.specs.Patches.{Blamed, Patches};
 
 // Restores at most two absent columns to the bench. Where none or one is absent, the others are tested before a byte is written: whether
 // they fit is the answer. A number that is no column's, which stands for none, leaves no column out of the test.
@@ -27,26 +27,17 @@ pub fn restore_gaps(gaps: Gaps, g: Grid, k: usize, stripe: &[u8], bench: &mut [u
     true
 }
 
-// Column u is the only one that can be the wrong one: rewrites it where the others fit a valid stripe.
-fn mend_column(g: Grid, k: usize, stripe: &mut [u8], u: usize) -> Suspect
-    requires { ⌜ Blamed g k (now stripe) × Sure (g .m) k (g .b) (now stripe) u ⌝ }
-    ensures { λ r. ⌜ Patches (g .m) k (g .b) (now (stripe .entry)) (now (stripe .exit)) r ⌝ }
-{
-    if !fits::fits_but(stripe, g, k, u) {
-        return Suspect::Nobody;
-    }
-    rewrite::rewrite(stripe, g, k, u);
-    Suspect::Column(u)
-}
-
-// Finds the column that can be the wrong one, and rewrites it. The answer is that column; nothing, of a stripe that is sound; or nobody.
+// Locates the wrong column, and rewrites it. The answer is that column; nothing, of a stripe that is sound; or nobody.
 pub fn mend_suspect(g: Grid, k: usize, stripe: &mut [u8]) -> Suspect
     requires { ⌜ Blamed g k (now stripe) ⌝ }
     ensures { λ r. ⌜ Patches (g .m) k (g .b) (now (stripe .entry)) (now (stripe .exit)) r ⌝ }
 {
-    match blame::locate(stripe, g, k) {
+    match locate::locate(stripe, g, k) {
         Suspect::Nothing => Suspect::Nothing,
         Suspect::Nobody => Suspect::Nobody,
-        Suspect::Column(u) => mend_column(g, k, stripe, u),
+        Suspect::Column(u) => {
+            rewrite::rewrite(stripe, g, k, u);
+            Suspect::Column(u)
+        }
     }
 }
