@@ -64,16 +64,15 @@ pub fn find_gaps(places: [bool; 129], n: usize) -> Gaps
     gaps
 }
 
-// Whether a place from n on is present.
+// Whether a place from n on is present. All of them are looked at, which is faster than to stop at the first.
 pub fn has_strays(places: [bool; 129], n: usize) -> bool
     ensures { λ r. ⌜ (r ≡ true) ↔ PresentFrom n places ⌝ }
 {
+    let mut any = false;
     for t in n..129 {
-        if places[t] {
-            return true;
-        }
+        any = any | places[t];
     }
-    false
+    any
 }
 
 // The marks that 129 bytes give: 1 is present, any other byte is absent.
