@@ -56,7 +56,8 @@ fn rewrite_column(
     }
 }
 
-// The same, whole columns at a time. w is room for a column.
+// Column u becomes the cell seed plus the lines of its rows over the first x columns and over those from y up to z, whole columns at a
+// time. w is room for a column.
 fn rewrite_whole(
     w: &mut [u8],
     seed: &[u8],

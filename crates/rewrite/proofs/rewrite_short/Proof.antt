@@ -1,7 +1,6 @@
 -- `rewrite::rewrite_short` meets its contract: `rewrite_whole_in` does, which is lent room for a cell and for a column.
 use Rattle.rewrite.proofs.Rewrites.{column-short}
 use borrow.Author.Needs.{needs}
-use native.Mathlib.Omega.{arith}
 use Rattle.rewrite.proofs.rewrite_short.Statement.{statement}
 use Rattle.rewrite.proofs.rewrite_short.Tie as tie
 

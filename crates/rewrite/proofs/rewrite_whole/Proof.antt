@@ -50,8 +50,11 @@ returns : tie.Need-returns
 returns c =
     let z = c .before .before .before .before .before .before .before .before .before .before .before .before .before .before .before .before .before .before .before in
     let a = z .args in
-    whole-copied (a .g .m) (a .g .b) (a .g .column) (z .pre .2) (now (a .s)) (now (a .seed)) (now (a .w)) (c .before .before .before .before .before .before .before .before .before .before .before .before .set-rows .last .0) (c .before .before .before .before .before .before .before .fill-lines .last .0) (c .before .before .copy-into .last .0) (a .slant) (a .x) (a .y) (a .z) (a .u * a .g .column)
-    (z .pre .5) (z .pre .0) (c .before .before .before .before .before .before .before .before .before .before .before .before .set-rows .ensures) (c .before .before .before .before .before .before .before .fill-lines .ensures) (c .before .before .copy-into .ensures)
+    let first = c .before .before .before .before .before .before .before .before .before .before .before .before .set-rows in
+    let second = c .before .before .before .before .before .before .before .fill-lines in
+    let copied = c .before .before .copy-into in
+    whole-copied (a .g .m) (a .g .b) (a .g .column) (z .pre .2) (now (a .s)) (now (a .seed)) (now (a .w)) (first .last .0) (second .last .0) (copied .last .0)
+    (a .slant) (a .x) (a .y) (a .z) (a .u * a .g .column) (z .pre .5) (z .pre .0) (first .ensures) (second .ensures) (copied .ensures)
 
 pub rewrite-whole-spec : {M : Type 1} → statement M
 rewrite-whole-spec =
