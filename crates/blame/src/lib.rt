@@ -202,9 +202,19 @@ fn find_suspect_in(sum: &mut [u8], cell: &mut [u8], s: &[u8], g: Grid, k: usize)
     Suspect::Nothing
 }
 
-// Which column of the stripe can be the wrong one: Nothing where the stripe is valid, Nobody where no column alone can. It is judged by
-// one lane that breaks, and so holds for all of them only if the other columns fit a valid stripe.
-pub fn find_suspect(s: &[u8], g: Grid, k: usize) -> Suspect
+// The same, with room of its own: little where a cell is short, since room is cleared before it is used.
+fn suspect_short(s: &[u8], g: Grid, k: usize) -> Suspect
+    requires { ⌜ (g .b ≤ 512) × Sized (g .m) (g .b) (g .column) × (1 ≤ k) × (k ≤ g .m) × (g .m % 2 ≡ 1) × Prime (g .m) × (length (now s) ≡ (k + 2) * g .column) ⌝ }
+    ensures { λ r. ⌜ Suspects (g .m) k (g .b) (now (s .entry)) r ⌝ }
+{
+    let b = g.b;
+    let mut sum = [0u8; 512];
+    let mut cell = [0u8; 512];
+    find_suspect_in(&mut sum[0..b], &mut cell[0..b], s, g, k)
+}
+
+// The same, with room for any cell.
+fn suspect_long(s: &[u8], g: Grid, k: usize) -> Suspect
     requires { ⌜ Sized (g .m) (g .b) (g .column) × (1 ≤ k) × (k ≤ g .m) × (g .m % 2 ≡ 1) × Prime (g .m) × (length (now s) ≡ (k + 2) * g .column) ⌝ }
     ensures { λ r. ⌜ Suspects (g .m) k (g .b) (now (s .entry)) r ⌝ }
 {
@@ -212,4 +222,16 @@ pub fn find_suspect(s: &[u8], g: Grid, k: usize) -> Suspect
     let mut sum = [0u8; 4096];
     let mut cell = [0u8; 4096];
     find_suspect_in(&mut sum[0..b], &mut cell[0..b], s, g, k)
+}
+
+// Which column of the stripe can be the wrong one: Nothing where the stripe is valid, Nobody where no column alone can. It is judged by
+// one lane that breaks, and so holds for all of them only if the other columns fit a valid stripe.
+pub fn find_suspect(s: &[u8], g: Grid, k: usize) -> Suspect
+    requires { ⌜ Sized (g .m) (g .b) (g .column) × (1 ≤ k) × (k ≤ g .m) × (g .m % 2 ≡ 1) × Prime (g .m) × (length (now s) ≡ (k + 2) * g .column) ⌝ }
+    ensures { λ r. ⌜ Suspects (g .m) k (g .b) (now (s .entry)) r ⌝ }
+{
+    if g.b <= 512 {
+        return suspect_short(s, g, k);
+    }
+    suspect_long(s, g, k)
 }

@@ -188,8 +188,19 @@ fn count_summed(at: &mut [usize], sum: &mut [u8], s: &[u8], g: Grid, k: usize, u
     count_straight(at, sum, s, g, k, u)
 }
 
-// The same where there are few columns, with room of its own.
-fn count_few(s: &[u8], g: Grid, k: usize, u: usize) -> usize
+// The same where there are few columns, with room of its own: little where a cell is short, since room is cleared before it is used.
+fn few_short(s: &[u8], g: Grid, k: usize, u: usize) -> usize
+    requires { ⌜ (g .b ≤ 512) × (k ≤ 32) × (k ≤ g .m) × Sized (g .m) (g .b) (g .column) × (length (now s) ≡ (k + 2) * g .column) ⌝ }
+    ensures { λ r. ⌜ r ≡ breaking (g .m - 1) (g .b) (λ l d. lineBut (g .m) k (lane (g .m) (g .b) (now (s .entry)) l) u (g .m - 1) ⊕ lineBut (g .m) k (lane (g .m) (g .b) (now (s .entry)) l) u d) ⌝ }
+{
+    let b = g.b;
+    let mut at = [0usize; 66];
+    let mut sum = [0u8; 512];
+    count_summed(&mut at, &mut sum[0..b], s, g, k, u)
+}
+
+// The same, with room for any cell.
+fn few_long(s: &[u8], g: Grid, k: usize, u: usize) -> usize
     requires { ⌜ (k ≤ 32) × (k ≤ g .m) × Sized (g .m) (g .b) (g .column) × (length (now s) ≡ (k + 2) * g .column) ⌝ }
     ensures { λ r. ⌜ r ≡ breaking (g .m - 1) (g .b) (λ l d. lineBut (g .m) k (lane (g .m) (g .b) (now (s .entry)) l) u (g .m - 1) ⊕ lineBut (g .m) k (lane (g .m) (g .b) (now (s .entry)) l) u d) ⌝ }
 {
@@ -197,6 +208,17 @@ fn count_few(s: &[u8], g: Grid, k: usize, u: usize) -> usize
     let mut at = [0usize; 66];
     let mut sum = [0u8; 4096];
     count_summed(&mut at, &mut sum[0..b], s, g, k, u)
+}
+
+// The same where there are few columns.
+fn count_few(s: &[u8], g: Grid, k: usize, u: usize) -> usize
+    requires { ⌜ (k ≤ 32) × (k ≤ g .m) × Sized (g .m) (g .b) (g .column) × (length (now s) ≡ (k + 2) * g .column) ⌝ }
+    ensures { λ r. ⌜ r ≡ breaking (g .m - 1) (g .b) (λ l d. lineBut (g .m) k (lane (g .m) (g .b) (now (s .entry)) l) u (g .m - 1) ⊕ lineBut (g .m) k (lane (g .m) (g .b) (now (s .entry)) l) u d) ⌝ }
+{
+    if g.b <= 512 {
+        return few_short(s, g, k, u);
+    }
+    few_long(s, g, k, u)
 }
 
 // The cell of w at `to` becomes the seed plus the cells that line d has in the data columns from t0 up to t1, and where these are the

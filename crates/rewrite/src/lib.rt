@@ -132,6 +132,17 @@ fn rewrite_short(s: &mut [u8], g: Grid, k: usize, u: usize)
     rewrite_whole_in(&mut sum[0..b], &mut w[0..c], s, g, k, u);
 }
 
+// The same where a cell is not long, cell by cell.
+fn rewrite_middle(s: &mut [u8], g: Grid, k: usize, u: usize)
+    requires { ⌜ (g .b ≤ 512) × Sized (g .m) (g .b) (g .column) × (k ≤ g .m) × (length (now s) ≡ (k + 2) * g .column) × (u < k + 2) ⌝ }
+    ensures { λ _. ⌜ Rewrote (g .m) k (g .b) u (now (s .entry)) (now (s .exit)) ⌝ }
+{
+    let b = g.b;
+    let mut sum = [0u8; 512];
+    let mut cell = [0u8; 512];
+    rewrite_in(&mut sum[0..b], &mut cell[0..b], s, g, k, u);
+}
+
 // The same for any cell.
 fn rewrite_long(s: &mut [u8], g: Grid, k: usize, u: usize)
     requires { ⌜ Sized (g .m) (g .b) (g .column) × (k ≤ g .m) × (length (now s) ≡ (k + 2) * g .column) × (u < k + 2) ⌝ }
@@ -148,8 +159,10 @@ pub fn rewrite(s: &mut [u8], g: Grid, k: usize, u: usize)
     requires { ⌜ Sized (g .m) (g .b) (g .column) × (1 ≤ k) × (k ≤ g .m) × (length (now s) ≡ (k + 2) * g .column) × (u < k + 2) ⌝ }
     ensures { λ _. ⌜ Rewrote (g .m) k (g .b) u (now (s .entry)) (now (s .exit)) ⌝ }
 {
-    if g.b >= 128 {
+    if g.b > 512 {
         rewrite_long(s, g, k, u);
+    } else if g.b >= 128 {
+        rewrite_middle(s, g, k, u);
     } else if g.column <= 1024 {
         rewrite_small(s, g, k, u);
     } else {

@@ -1,7 +1,7 @@
--- `blame::find_suspect` meets its contract: a cell is at most 4096 bytes.
+-- `blame::suspect_short` meets its contract: a cell is at most 512 bytes.
 use borrow.Author.Needs.{needs}
-use Rattle.blame.proofs.find_suspect.Statement.{statement}
-use Rattle.blame.proofs.find_suspect.Tie as tie
+use Rattle.blame.proofs.suspect_short.Statement.{statement}
+use Rattle.blame.proofs.suspect_short.Tie as tie
 
 sub-find-suspect-in : tie.Need-sub-find-suspect-in
 sub-find-suspect-in c = search needs
@@ -24,13 +24,13 @@ part-cell-end c = search needs
 find-suspect-in-requires : tie.Need-find-suspect-in-requires
 find-suspect-in-requires c κs =
     let p = c .before .before .before .pre in
-    (search needs, search needs, p .0, p .2, p .3, p .4, p .5)
+    (search needs, search needs, p .1, p .3, p .4, p .5, p .6)
 
 returns : tie.Need-returns
 returns c = search needs
 
-pub find-suspect-spec : {M : Type 1} → statement M
-find-suspect-spec =
+pub suspect-short-spec : {M : Type 1} → statement M
+suspect-short-spec =
     tie.close
     (tie.spec
     sub-find-suspect-in
