@@ -7,8 +7,8 @@ use Prim.Native.Nat.{ℕ, _+_, _-_, _≤_, _<_}
 use lib.Dec.{eqb}
 use Rattle.parity.specs.Stripe.{lane, brokenRows, brokenDiagonals}
 use Rattle.parity.proofs.Count.{count-cong, some-cong}
-use Rattle.counts.specs.Counts.{breaking}
-use Rattle.counts.proofs.Buts.{rest, rest-H, rest-D}
+use Rattle.breaks.specs.Breaking.{breaking}
+use Rattle.breaks.proofs.Buts.{rest, rest-H, rest-D}
 
 module _ (m k b : ℕ) (big : 1 < m) (few : k ≤ m) (s : List ℕ) where
   pub broken-rows : breaking (m - 1) b (λ l i. rest m k big few (lane m b s l) (k + 1) i) ≡ brokenRows m k b s

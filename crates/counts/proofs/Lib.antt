@@ -1,4 +1,2 @@
-pub mod Buts
-pub mod Folds
-pub mod Bands
 pub mod Amounts
+pub mod Wholes

@@ -28,10 +28,10 @@ use Rattle.lines.proofs.Lines.{back-lt, real-out}
 use Rattle.lines.proofs.Valid.{line-but, back-row}
 use Rattle.lines.proofs.Amounts.{diagonal-lines}
 use Rattle.lines.proofs.Places.{blank-one}
-use Rattle.counts.specs.Counts.{breaking}
-use Rattle.counts.specs.But.{lineBut}
-use Rattle.counts.proofs.Buts.{ends-data, part-data, row-end, rest, rest-H, rest-D}
-use Rattle.counts.proofs.Folds.{breaking-zero, zero-breaking}
+use Rattle.breaks.specs.Breaking.{breaking}
+use Rattle.breaks.specs.But.{lineBut}
+use Rattle.breaks.proofs.Buts.{ends-data, part-data, row-end, rest, rest-H, rest-D}
+use Rattle.breaks.proofs.Folds.{breaking-zero, zero-breaking}
 
 module _ (m k : ℕ) (big : 1 < m) (few : k ≤ m) (a : Lane) where
   but-data : (u d : ℕ) → u < k → d < m → lineBut m k a u d ≡ line m a 1 d k ⊕ rowAmount m k a (back m d u) ⊕ real m a d (k + 1)

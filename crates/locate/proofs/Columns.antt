@@ -117,7 +117,7 @@ module _ (m b u : ℕ) (x y w v z : List ℕ) (big : 1 < m) (p : Lined (m - 1) b
   held l i hl hi =
       first-at m b z i l ∙ lined-grown (m - 1) b 0 (λ i l. span m (lane m b y l) 0 ((i + 0) % m) 0 1) p q .inside i l hi hl
       ∙ ap (λ (v : ℕ). rowsAt m b x l (back m (m - 1) u) ⊕ rowsAt m b x l (back m i u) ⊕ v)
-        (cell-span m (lane m b y l) ((i + 0) % m) 0 (mod-lt (i + 0) (omega arith)) ∙ ap (λ (r : ℕ). real m (lane m b y l) r 0) (whole-line (omega arith)) ∙ real-in m (lane m b y l) i 0 hi)
+      (cell-span m (lane m b y l) ((i + 0) % m) 0 (mod-lt (i + 0) (omega arith)) ∙ ap (λ (r : ℕ). real m (lane m b y l) r 0) (whole-line (omega arith)) ∙ real-in m (lane m b y l) i 0 hi)
 
   pub turned-tells : (r : ℕ) → 0 < b → length z ≡ (m - 1) * b → Tells r (length z) (λ p. getD z p 0)
       → Whether (eqb r 0) ((l : ℕ) → l < b → Turned m (rowsAt m b x l) (diagonalsAt m b y l) u)

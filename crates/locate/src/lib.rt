@@ -63,7 +63,15 @@ fn pick(h: &mut [u8], x: &[u8], b: usize, l: usize, n: usize)
 }
 
 // The column that can be the wrong one of lane l. h and d are room for its amounts.
-fn judge_picked(h: &mut [u8], d: &mut [u8], x: &[u8], y: &[u8], g: Grid, k: usize, l: usize) -> Suspect
+fn judge_picked(
+    h: &mut [u8],
+    d: &mut [u8],
+    x: &[u8],
+    y: &[u8],
+    g: Grid,
+    k: usize,
+    l: usize,
+) -> Suspect
     requires { ⌜ (length (now h) ≡ g .m) × (length (now d) ≡ g .m - 1) × (length (now x) ≡ g .column) × (length (now y) ≡ g .column) × (l < g .b) × (k ≤ g .m) × Sized (g .m) (g .b) (g .column) ⌝ }
     ensures { λ r. ⌜ Blames (g .m) k (rowsAt (g .m) (g .b) (now (x .entry)) l) (diagonalsAt (g .m) (g .b) (now (y .entry)) l) r ⌝ }
 {
@@ -185,7 +193,15 @@ fn locate_small(s: &[u8], g: Grid, k: usize) -> Suspect
     let mut x = [0u8; 1024];
     let mut y = [0u8; 1024];
     let mut z = [0u8; 1024];
-    locate_whole(&mut x[0..c], &mut y[0..c], &mut z[0..c], &mut sum[0..b], s, g, k)
+    locate_whole(
+        &mut x[0..c],
+        &mut y[0..c],
+        &mut z[0..c],
+        &mut sum[0..b],
+        s,
+        g,
+        k,
+    )
 }
 
 // The same where cells are short, with room for any such column.
@@ -199,7 +215,15 @@ fn locate_short(s: &[u8], g: Grid, k: usize) -> Suspect
     let mut x = [0u8; 16384];
     let mut y = [0u8; 16384];
     let mut z = [0u8; 16384];
-    locate_whole(&mut x[0..c], &mut y[0..c], &mut z[0..c], &mut sum[0..b], s, g, k)
+    locate_whole(
+        &mut x[0..c],
+        &mut y[0..c],
+        &mut z[0..c],
+        &mut sum[0..b],
+        s,
+        g,
+        k,
+    )
 }
 
 // Column u alone can be the wrong one: that column where the others fit a valid stripe.

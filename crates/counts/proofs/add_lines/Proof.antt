@@ -8,8 +8,8 @@ use Rattle.lines.specs.Lines.{real, span}
 use Rattle.lines.specs.Places.{blank}
 use Rattle.lines.proofs.Lines.{back-lt}
 use Rattle.lines.proofs.Rows.{grown-same, grown-both}
-use Rattle.counts.specs.But.{lineBut}
-use Rattle.counts.proofs.Buts.{whole-row, whole-diagonal, whole-data}
+use Rattle.breaks.specs.But.{lineBut}
+use Rattle.counts.proofs.Wholes.{whole-row, whole-diagonal, whole-data}
 use borrow.Author.Needs.{needs}
 use native.Mathlib.Omega.{arith}
 use Rattle.counts.proofs.add_lines.Statement.{statement}

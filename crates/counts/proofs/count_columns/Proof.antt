@@ -5,8 +5,8 @@ use denote.Ref.{now}
 use Rattle.parity.specs.Xor.{_⊕_}
 use Rattle.parity.specs.Stripe.{lane}
 use Rattle.cells.proofs.Puts.{put-start}
-use Rattle.counts.specs.But.{lineBut}
-use Rattle.counts.proofs.Folds.{breaking-cong}
+use Rattle.breaks.specs.But.{lineBut}
+use Rattle.breaks.proofs.Folds.{breaking-cong}
 use borrow.Author.Needs.{needs}
 use Rattle.counts.proofs.count_columns.Statement.{statement}
 use Rattle.counts.proofs.count_columns.Tie as tie

@@ -4,7 +4,7 @@ use Prim.Native.Nat.{_+_, _*_}
 use lib.ListN.{getD}
 use denote.Ref.{now}
 use Rattle.cells.proofs.Parts.{parts-end}
-use Rattle.counts.proofs.Folds.{zero-breaking}
+use Rattle.breaks.proofs.Folds.{zero-breaking}
 use borrow.Author.Needs.{needs}
 use native.Mathlib.Omega.{arith}
 use Rattle.counts.proofs.count_set.Statement.{statement}

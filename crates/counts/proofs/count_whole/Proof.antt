@@ -5,9 +5,9 @@ use denote.Ref.{now}
 use Rattle.parity.specs.Stripe.{lane}
 use Rattle.lines.proofs.Rows.{lined-grown}
 use Rattle.lines.proofs.Whole.{column-room}
-use Rattle.counts.specs.But.{lineBut}
-use Rattle.counts.proofs.Folds.{breaking-cong}
-use Rattle.counts.proofs.Bands.{band-at}
+use Rattle.breaks.specs.But.{lineBut}
+use Rattle.breaks.proofs.Folds.{breaking-cong}
+use Rattle.breaks.proofs.Bands.{band-at}
 use borrow.Author.Needs.{needs}
 use native.Mathlib.Omega.{arith}
 use Rattle.counts.proofs.count_whole.Statement.{statement}

@@ -1,0 +1,149 @@
+-- Laws for summing cells at listed places, in blocks of lanes, and for counting what is not zero.
+--   cross                     a line can be followed through some data columns
+--   listed-as                 the same cells by another name, at most more of them, within more bytes
+--   listed-total, listed-in   places that were listed first, lent as a part: what their cells add up to, and that they end within the bytes
+--   fold                      a run that was set, added to and or-ed together tells of the sums
+--   block-next, block-last    one block more was told of, and the last, which may overlap those before
+--   breaking-zero, zero-breaking   nothing is counted exactly where all is zero
+--   breaking-…                no line, one more, the same bytes by another name, more lines after the first, and at most so many
+use mathlib.Core.Path.{_≡_, refl, sym, ap, _∙_, subst}
+use mathlib.Core.Bool.{Bool, true, false, cond, not}
+use mathlib.Core.List.{List}
+use Prim.Native.Nat.{ℕ, zero, suc, _+_, _*_, _-_, _≤_, _<_}
+use native.Mathlib.Nat.{le-refl, le-trans, mul-le-mul-right}
+use native.Mathlib.Numerals.{add-one}
+use native.Mathlib.Omega.{arith}
+use lib.Bits.{bitOr}
+use lib.ListN.{length, getD}
+use lib.Dec.{eqb}
+use borrow.Author.Tests.{eq-eqb, eqb-true}
+use Rattle.parity.specs.Xor.{_⊕_}
+use Rattle.parity.specs.Sum.{count, some}
+use Rattle.parity.proofs.Xor.{zero-⊕}
+use Rattle.parity.proofs.Count.{count-cong, count-most, none-pass, all-fail, some-cong, some-false, false-some}
+use Rattle.cells.specs.Runs.{Added, Put, Tells}
+use Rattle.cells.proofs.Parts.{part}
+use Rattle.cells.proofs.Tells.{tells-next}
+use Rattle.lines.specs.Lines.{Sized, Crosses}
+use Rattle.lines.specs.Places.{total, Within, Listed}
+use Rattle.lines.proofs.Places.{total-none, total-part, within-part}
+use Rattle.breaks.specs.Breaking.{breaking}
+
+-- ---- places
+
+-- a line can be followed through some data columns
+pub cross : {m b c k : ℕ} → Sized m b c → k ≤ m → (e i x y : ℕ) → e ≤ 1 → i < m → x ≤ y → y ≤ k → Crosses m c (y * c) e i x y
+cross {c = c} z few e i x y slant inside order most = record {
+  slant = slant;
+  inside = inside;
+  order = order;
+  within = le-trans (mul-le-mul-right y slant) (omega arith);
+  most = omega (arith, z .few);
+  columns = le-refl (y * c);
+}
+
+pub listed-as : {b y z n k i j : ℕ} {at v : List ℕ} {f g : List ℕ → ℕ → ℕ} → y ≤ z → i ≤ j → ((s : List ℕ) (l : ℕ) → f s l ≡ g s l)
+    → Listed b y n k i at v f → Listed b z n k j at v g
+listed-as {n = n} {at = at} h e so p = record {
+  size = p .size;
+  least = p .least;
+  most = omega (arith, p .most);
+  sums = λ s l. p .sums s l ∙ ap (λ (x : ℕ). total at n s l ⊕ x) (so s l);
+  within = λ o k w. p .within o (omega arith) w;
+}
+
+module _ {b z n more : ℕ} {at at′ : List ℕ} {f : List ℕ → ℕ → ℕ} (p : Listed b z 0 n more at at′ f) (room : more ≤ length at) where
+  pub listed-room : n ≤ length at′
+  listed-room = omega (arith, p .most, p .size)
+
+  pub listed-total : (s : List ℕ) (l : ℕ) → total (part at′ 0 n) (length (part at′ 0 n)) s l ≡ f s l
+  listed-total s l = total-part at′ n listed-room s l ∙ p .sums s l ∙ ap (λ (x : ℕ). x ⊕ f s l) (total-none at s l) ∙ zero-⊕ (f s l)
+
+  pub listed-in : (y : ℕ) → z ≤ y → Within (part at′ 0 n) (length (part at′ 0 n)) b y
+  listed-in y h = within-part at′ n listed-room b y (p .within y h (λ x k. absurd (omega arith)))
+
+-- ---- blocks of lanes
+
+pub fold : {x y z : List ℕ} {f g : ℕ → ℕ} {r : ℕ} → Put x y 0 (length x) f → Added y z g → Tells r (length z) (λ l. getD z l 0) → Tells r (length x) (λ l. f l ⊕ g l)
+fold {x} {y} {z} {f} {g} p a t = record {
+  none = λ e l h. sym (byte l h) ∙ t .none e l (rw size h);
+  all = λ e. t .all (λ l h. let k : l < length x = omega (arith, size) in byte l k ∙ e l k);
+}
+  where
+    size : length z ≡ length x
+    size = a .size ∙ p .size
+
+    byte : (l : ℕ) → l < length x → getD z l 0 ≡ f l ⊕ g l
+    byte l h =
+        let q : 0 + l ≡ l = omega arith in
+        a .byte l (omega (arith, p .size)) ∙ ap (λ (v : ℕ). v ⊕ g l) (ap (λ (v : ℕ). getD y v 0) (sym q) ∙ p .inside l h)
+
+pub block-next : (o r j n x : ℕ) (f : ℕ → ℕ) → x ≡ n → Tells o j f → Tells r x (λ l. f (j + l)) → Tells (bitOr o r) (j + n) f
+block-next o r j n x f e t s = tells-next o r j j n f (omega arith) (omega arith) t (subst (λ (y : ℕ). Tells r y (λ l. f (j + l))) e s)
+
+pub block-last : (o r j n x b : ℕ) (f : ℕ → ℕ) → x ≡ n → n ≤ b → b - n ≤ j → j ≤ b → Tells o j f → Tells r x (λ l. f (b - n + l)) → Tells (bitOr o r) b f
+block-last o r j n x b f e h low high t s =
+    let q : b - n + n ≡ b = omega arith in
+    subst (λ (y : ℕ). Tells (bitOr o r) y f) q (tells-next o r j (b - n) n f low (omega arith) t (subst (λ (y : ℕ). Tells r y (λ l. f (b - n + l))) e s))
+
+-- ---- counting
+
+not-not : (x : Bool) → not x ≡ false → x ≡ true
+not-not true e = refl
+not-not false e = sym e
+
+module _ (b : ℕ) (f : ℕ → ℕ → ℕ) where
+  pub breaking-none : breaking 0 b f ≡ 0
+  unfolding breaking count
+  breaking-none = refl
+
+  pub breaking-most : (n : ℕ) → breaking n b f ≤ n
+  unfolding breaking
+  breaking-most n = count-most n (λ i. some b (λ l. not (eqb (f l i) 0)))
+
+  pub breaking-zero : (n : ℕ) → breaking n b f ≡ 0 → (i l : ℕ) → i < n → l < b → f l i ≡ 0
+  unfolding breaking
+  breaking-zero n e i l h k = eqb-true (f l i) 0 (not-not (eqb (f l i) 0) (some-false b _ (none-pass n _ e i h) l k))
+
+  pub zero-breaking : (n : ℕ) → ((i l : ℕ) → i < n → l < b → f l i ≡ 0) → breaking n b f ≡ 0
+  unfolding breaking
+  zero-breaking n so = all-fail n _ (λ i h. false-some b _ (λ l k. ap not (eq-eqb (f l i) 0 (so i l h k))))
+
+  module _ (r i : ℕ) (t : Tells r b (λ l. f l i)) where
+    tells-not : r ≡ 0 → some b (λ l. not (eqb (f l i) 0)) ≡ false
+    tells-not e = false-some b _ (λ l h. ap not (eq-eqb _ _ (t .none e l h)))
+
+    not-tells : some b (λ l. not (eqb (f l i) 0)) ≡ false → r ≡ 0
+    not-tells e = t .all (λ l h. eqb-true _ _ (not-not (eqb (f l i) 0) (some-false b _ e l h)))
+
+    pub breaking-same : r ≡ 0 → breaking (i + 1) b f ≡ breaking i b f
+    unfolding breaking count
+    breaking-same e = rw (add-one i, tells-not e)
+
+    pub breaking-more : (r ≡ 0 → ⊥) → breaking (i + 1) b f ≡ breaking i b f + 1
+    unfolding breaking count
+    breaking-more ne = rw (add-one i, add-one (breaking i b f)) (go (some b (λ l. not (eqb (f l i) 0))) refl)
+      where
+        go : (x : Bool) → some b (λ l. not (eqb (f l i) 0)) ≡ x → cond (some b (λ l. not (eqb (f l i) 0))) (suc (breaking i b f)) (breaking i b f) ≡ suc (breaking i b f)
+        go true e = rw e
+        go false e = absurd (ne (not-tells e))
+
+pub breaking-cong : (n b : ℕ) {f g : ℕ → ℕ → ℕ} → ((i l : ℕ) → i < n → l < b → f l i ≡ g l i) → breaking n b f ≡ breaking n b g
+unfolding breaking
+breaking-cong n b so = count-cong n (λ i h. some-cong b (λ l k. ap (λ (v : ℕ). not (eqb v 0)) (so i l h k)))
+
+-- lines after the first x
+count-next : (x n : ℕ) (p : ℕ → Bool) → count (x + n) p ≡ count x p + count n (λ i. p (x + i))
+unfolding count
+count-next x zero p = let e : x + 0 ≡ x = omega arith in ap (λ (y : ℕ). count y p) e ∙ omega arith
+count-next x (suc n) p =
+    let e : x + suc n ≡ suc (x + n) = omega arith in
+    ap (λ (y : ℕ). count y p) e ∙ go (p (x + n)) (count (x + n) p) (count n (λ i. p (x + i))) (count-next x n p)
+  where
+    go : (c : Bool) (y z : ℕ) → y ≡ count x p + z → cond c (suc y) y ≡ count x p + cond c (suc z) z
+    go true y z e = omega arith
+    go false y z e = e
+
+pub breaking-next : (x n b : ℕ) (f : ℕ → ℕ → ℕ) → breaking (x + n) b f ≡ breaking x b f + breaking n b (λ l i. f l (x + i))
+unfolding breaking
+breaking-next x n b f = count-next x n (λ i. some b (λ l. not (eqb (f l i) 0)))

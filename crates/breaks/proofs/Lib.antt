@@ -1,0 +1,3 @@
+pub mod Buts
+pub mod Folds
+pub mod Bands
