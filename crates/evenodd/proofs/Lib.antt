@@ -1,4 +1,1 @@
--- Laws that belong to no one function.
-pub mod Told
-pub mod Determined
 pub mod EndToEnd

@@ -10,14 +10,14 @@ use lib.ListN.{length}
 use Rattle.parity.specs.Shape.{benchLength}
 use Rattle.parity.specs.Stripe.{Stripe}
 use Rattle.parity.specs.Presence.{absences, differs, Agrees}
-use Rattle.evenodd.specs.declared.encoding.Encoded.the-variants as encoded
+use Rattle.coding.specs.declared.encoding.Encoded.the-variants as encoded
 use Rattle.inputs.specs.declared.maps.Map.{Map}
 use Rattle.rebuild.specs.declared.mending.Mended.{Mended}
 use Rattle.rebuild.specs.declared.mending.Mended.the-variants as mended
 use Rattle.rebuild.specs.declared.restoring.Restored.{Restored}
 use Rattle.rebuild.specs.declared.restoring.Restored.the-variants as restored
 use Rattle.inputs.specs.Maps.{Stray}
-use Rattle.evenodd.specs.Encodes.{Encodes}
+use Rattle.coding.specs.Encodes.{Encodes}
 use Rattle.rebuild.specs.Restores.{Benched, Restores}
 use Rattle.rebuild.specs.Mends.{Mends}
 

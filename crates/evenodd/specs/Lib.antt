@@ -1,5 +1,2 @@
--- What encode and check promise, and what follows from the promises of all calls.
-pub mod Encodes
-pub mod Checks
-pub mod Determined
+-- What follows from the promises of all calls together.
 pub mod EndToEnd

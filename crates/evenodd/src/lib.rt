@@ -1,12 +1,9 @@
 // Stripes kept in the EVENODD code: encode, check, show, restore and mend. Nothing here asks anything of its caller: bad input is
-// refused by number, and a refused call changes no byte that was lent.
-mod checking;
-mod encoding;
-
-pub use checking::Checked;
-pub use checking::check;
-pub use encoding::Encoded;
-pub use encoding::encode;
+// refused by number, and a refused call changes no byte that was lent. The calls stand in the crates that they are handed on from.
+pub use coding::Checked;
+pub use coding::Encoded;
+pub use coding::check;
+pub use coding::encode;
 pub use inputs::Judged;
 pub use inputs::Map;
 pub use inputs::Marked;

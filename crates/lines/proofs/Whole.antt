@@ -1,4 +1,5 @@
 -- Whole columns of a whole stripe: what the loops over them ask for, and the lines that they start from.
+--   sized                           the numbers of a shape
 --   row-crosses, diagonal-crosses   rows go through all columns of a stripe, diagonals through the data columns
 --   column-crosses                  rows go through a column that stands alone
 --   column-room, short-column       a column has room for its m - 1 cells; a column of short cells is not long
@@ -11,11 +12,15 @@ use native.Mathlib.Nat.{mul-le-mul, mul-le-mul-right, mod-eq-of-lt, add-mod-mod}
 use native.Mathlib.Omega.{arith}
 use lib.ListN.{length, getD, length-take, List·getD-eq-default}
 use Rattle.parity.specs.Xor.{_⊕_}
+use Rattle.parity.specs.Shape.{Shape, columnLength}
 use Rattle.parity.specs.Equations.{back}
 use Rattle.parity.proofs.Xor.{zero-⊕}
 use Rattle.cells.proofs.Parts.{part}
 use Rattle.lines.specs.Lines.{Sized, Crosses}
 use Rattle.lines.proofs.Lines.{column-is}
+
+pub sized : {m k b c : ℕ} → Shape m k b → c ≡ columnLength m b → Sized m b c
+sized s e = record { big = s .value .prime .big; few = s .value .most; filled = s .filled; short = s .short; column = e }
 
 module _ {m k b c p : ℕ} (z : Sized m b c) (few : k ≤ m) (whole : p ≡ (k + 2) * c) where
   columns : {y : ℕ} → y ≤ k + 2 → y * c ≤ p

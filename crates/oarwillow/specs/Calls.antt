@@ -4,16 +4,16 @@
 use mathlib.Core.Path.{_≡_}
 use mathlib.Core.List.{List}
 use Prim.Native.Nat.{ℕ}
-use Rattle.evenodd.specs.declared.checking.Checked.{Checked}
-use Rattle.evenodd.specs.declared.encoding.Encoded.{Encoded}
+use Rattle.coding.specs.declared.checking.Checked.{Checked}
+use Rattle.coding.specs.declared.encoding.Encoded.{Encoded}
 use Rattle.inputs.specs.declared.maps.Map.{Map}
 use Rattle.rebuild.specs.declared.mending.Mended.{Mended}
 use Rattle.rebuild.specs.declared.restoring.Restored.{Restored}
 use Rattle.showing.specs.declared.Place.{Place}
 use Rattle.inputs.specs.Maps.{OfBytes, AsBytes}
-use Rattle.evenodd.specs.Encodes.{Encodes, encoded}
-use Rattle.evenodd.specs.Checks.{Checks, rowsOf, diagonalsOf}
-use Rattle.evenodd.specs.Checks as checks
+use Rattle.coding.specs.Encodes.{Encodes, encoded}
+use Rattle.coding.specs.Checks.{Checks, rowsOf, diagonalsOf}
+use Rattle.coding.specs.Checks as checks
 use Rattle.rebuild.specs.Restores.{Restores, restored}
 use Rattle.rebuild.specs.Mends.{Mends, columnOf}
 use Rattle.rebuild.specs.Mends as mends

@@ -1,5 +1,4 @@
 -- What the loops below ask for.
---   sized                       the numbers of a shape
 --   columns-long                the bytes of a stripe, by the bytes of a column
 --   gapped-.., blamed-length    what is asked, of what is known
 use mathlib.Core.Path.{_≡_, sym, ap, _∙_}
@@ -7,18 +6,15 @@ use mathlib.Core.List.{List}
 use Prim.Native.Nat.{ℕ, _+_, _-_, _*_, _<_}
 use native.Mathlib.Omega.{arith}
 use lib.ListN.{length}
-use Rattle.parity.specs.Shape.{Shape, columnLength, stripeLength, benchLength}
+use Rattle.parity.specs.Shape.{columnLength, stripeLength, benchLength}
 use Rattle.lines.specs.declared.Grid.{Grid}
-use Rattle.lines.specs.Lines.{Sized}
+use Rattle.lines.proofs.Whole.{sized}
 use Rattle.walk.specs.Walk.{Reaches}
 use Rattle.walk.proofs.Callers.{reaches}
 use Rattle.columns.specs.Columns.{Ready}
 use Rattle.marks.specs.declared.Gaps.{Gaps}
 use Rattle.repair.specs.Fills.{Gapped}
 use Rattle.repair.specs.Patches.{Blamed}
-
-pub sized : {m k b c : ℕ} → Shape m k b → c ≡ columnLength m b → Sized m b c
-sized s e = record { big = s .value .prime .big; few = s .value .most; filled = s .filled; short = s .short; column = e }
 
 columns-long : (m k b c n : ℕ) → n ≡ stripeLength m k b → c ≡ columnLength m b → n ≡ (k + 2) * c
 unfolding stripeLength

@@ -3,7 +3,8 @@ use mathlib.Core.Path.{refl, subst}
 use denote.Ref.{now}
 use borrow.Author.Needs.{needs}
 use Rattle.locate.specs.Locate.{Located}
-use Rattle.repair.proofs.Asked.{sized, blamed-length}
+use Rattle.lines.proofs.Whole.{sized}
+use Rattle.repair.proofs.Asked.{blamed-length}
 use Rattle.repair.proofs.mend_suspect.Statement.{statement}
 use Rattle.repair.proofs.mend_suspect.Tie as tie
 

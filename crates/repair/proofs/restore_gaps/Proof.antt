@@ -6,7 +6,8 @@ use Prim.Native.Nat.{ℕ, _≤_}
 use native.Mathlib.Decide.{decLt}
 use native.Mathlib.Omega.{arith}
 use borrow.Author.Tests.{not-true, not-false}
-use Rattle.repair.proofs.Asked.{sized, gapped-length, gapped-ready, gapped-reaches}
+use Rattle.lines.proofs.Whole.{sized}
+use Rattle.repair.proofs.Asked.{gapped-length, gapped-ready, gapped-reaches}
 use Rattle.repair.proofs.restore_gaps.Statement.{statement}
 use Rattle.repair.proofs.restore_gaps.Tie as tie
 

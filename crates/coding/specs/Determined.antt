@@ -3,10 +3,10 @@
 use mathlib.Core.Path.{_≡_}
 use mathlib.Core.List.{List}
 use Prim.Native.Nat.{ℕ}
-use Rattle.evenodd.specs.declared.checking.Checked.{Checked}
-use Rattle.evenodd.specs.declared.encoding.Encoded.{Encoded}
-use Rattle.evenodd.specs.Encodes.{Encodes}
-use Rattle.evenodd.specs.Checks.{Checks}
+use Rattle.coding.specs.declared.checking.Checked.{Checked}
+use Rattle.coding.specs.declared.encoding.Encoded.{Encoded}
+use Rattle.coding.specs.Encodes.{Encodes}
+use Rattle.coding.specs.Checks.{Checks}
 
 unfoldable pub EncodesOne : Type 0
 EncodesOne = (m k b : ℕ) (s x y : List ℕ) (r q : Encoded) → Encodes m k b s x r → Encodes m k b s y q → (r ≡ q) × (x ≡ y)

@@ -3,7 +3,7 @@ use inputs::Judged;
 use inputs::Refusal;
 use inputs::judge_stripe;
 use lines::Grid;
-ghost use Rattle.evenodd.specs.Encodes.{Encodes};
+ghost use Rattle.coding.specs.Encodes.{Encodes};
 
 // What encode answers.
 pub enum Encoded {

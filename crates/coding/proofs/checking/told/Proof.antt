@@ -1,7 +1,7 @@
--- `evenodd::checking::told` meets its contract: what the tests on the way to each answer said.
+-- `coding::checking::told` meets its contract: what the tests on the way to each answer said.
 use mathlib.Core.Path.{refl}
-use Rattle.evenodd.proofs.checking.told.Statement.{statement}
-use Rattle.evenodd.proofs.checking.told.Tie as tie
+use Rattle.coding.proofs.checking.told.Statement.{statement}
+use Rattle.coding.proofs.checking.told.Tie as tie
 
 returns : tie.Need-returns
 returns c = (λ p. c .if1 .taken (p .0), refl, refl)

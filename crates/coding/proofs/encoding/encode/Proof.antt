@@ -1,4 +1,4 @@
--- `evenodd::encoding::encode` meets its contract: the tests, and the stripe that the loops below leave.
+-- `coding::encoding::encode` meets its contract: the tests, and the stripe that the loops below leave.
 use mathlib.Core.Path.{refl, sym, _∙_}
 use mathlib.Core.List.{[]}
 use native.Mathlib.Omega.{arith}
@@ -7,12 +7,12 @@ use denote.Ref.{now}
 use borrow.Author.Needs.{needs}
 use Rattle.parity.proofs.Columns.{column-same}
 use Rattle.lines.proofs.Cells.{cell-kept}
-use Rattle.repair.proofs.Asked.{sized}
+use Rattle.lines.proofs.Whole.{sized}
 use Rattle.inputs.specs.Tests.{stripeTests}
 use Rattle.inputs.proofs.Tests.{told-refused, Numbers, stripe-good, stripe-long}
 use Rattle.inputs.proofs.Stripe.{stripe-passed}
-use Rattle.evenodd.proofs.encoding.encode.Statement.{statement}
-use Rattle.evenodd.proofs.encoding.encode.Tie as tie
+use Rattle.coding.proofs.encoding.encode.Statement.{statement}
+use Rattle.coding.proofs.encoding.encode.Tie as tie
 
 good : (c : tie.After-known-told) → let a = c .before .before .before .before .before .args in
     Numbers (a .m) (a .k) (a .b) (length (now (a .stripe))) (c .before .judged .given .0 .0)

@@ -7,8 +7,8 @@ use mathlib.Core.List.{List}
 use Prim.Native.Nat.{ℕ}
 use Rattle.parity.specs.Stripe.{Intact, brokenRows, brokenDiagonals}
 use Rattle.counts.specs.declared.Counts.{Counts}
-use Rattle.evenodd.specs.declared.checking.Checked.{Checked}
-use Rattle.evenodd.specs.declared.checking.Checked.the-variants as checked
+use Rattle.coding.specs.declared.checking.Checked.{Checked}
+use Rattle.coding.specs.declared.checking.Checked.the-variants as checked
 use Rattle.inputs.specs.Refusals.{Verdict, pass, refuse, Gives}
 use Rattle.inputs.specs.Shapes.{stripeRules}
 

@@ -1,14 +1,14 @@
--- `evenodd::checking::check` meets its contract: the tests, and the counts of the loops below.
+-- `coding::checking::check` meets its contract: the tests, and the counts of the loops below.
 use mathlib.Core.List.{[]}
 use lib.ListN.{length}
 use denote.Ref.{now}
-use Rattle.repair.proofs.Asked.{sized}
+use Rattle.lines.proofs.Whole.{sized}
 use Rattle.inputs.specs.Tests.{stripeTests}
 use Rattle.inputs.proofs.Tests.{told-refused, Numbers, stripe-good, stripe-long}
 use Rattle.inputs.proofs.Stripe.{stripe-passed}
-use Rattle.evenodd.proofs.Told.{says-checks}
-use Rattle.evenodd.proofs.checking.check.Statement.{statement}
-use Rattle.evenodd.proofs.checking.check.Tie as tie
+use Rattle.coding.proofs.Told.{says-checks}
+use Rattle.coding.proofs.checking.check.Statement.{statement}
+use Rattle.coding.proofs.checking.check.Tie as tie
 
 good : (c : tie.After-known-told) → let a = c .before .before .before .before .before .args in
     Numbers (a .m) (a .k) (a .b) (length (now (a .stripe))) (c .before .judged .given .0 .0)

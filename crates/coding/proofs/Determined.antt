@@ -16,9 +16,9 @@ use Rattle.parity.proofs.Theorems.{frame, served}
 use Rattle.inputs.specs.Shapes.{stripeRules}
 use Rattle.inputs.proofs.Rules.{passes-not, refuse-one, gives-one}
 use Rattle.inputs.proofs.Stripe.{stripe-given}
-use Rattle.evenodd.specs.declared.checking.Checked.the-variants as checked
-use Rattle.evenodd.specs.declared.encoding.Encoded.the-variants as encoded
-use Rattle.evenodd.specs.Determined.{EncodesOne, ChecksOne}
+use Rattle.coding.specs.declared.checking.Checked.the-variants as checked
+use Rattle.coding.specs.declared.encoding.Encoded.the-variants as encoded
+use Rattle.coding.specs.Determined.{EncodesOne, ChecksOne}
 
 -- valid stripes with the same data columns are one
 pub data-determine : (m k b : ℕ) → Shape m k b → (s x y : List ℕ) → Valid m k b x → Valid m k b y

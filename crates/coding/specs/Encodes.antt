@@ -6,8 +6,8 @@ use mathlib.Core.List.{List}
 use Prim.Native.Nat.{ℕ, _<_}
 use Rattle.parity.specs.Stripe.{Valid}
 use Rattle.parity.specs.Presence.{differs}
-use Rattle.evenodd.specs.declared.encoding.Encoded.{Encoded}
-use Rattle.evenodd.specs.declared.encoding.Encoded.the-variants.{Done, Refused}
+use Rattle.coding.specs.declared.encoding.Encoded.{Encoded}
+use Rattle.coding.specs.declared.encoding.Encoded.the-variants.{Done, Refused}
 use Rattle.inputs.specs.Refusals.{Verdict, pass, refuse, Gives}
 use Rattle.inputs.specs.Shapes.{stripeRules}
 

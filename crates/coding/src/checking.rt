@@ -4,7 +4,7 @@ use inputs::Judged;
 use inputs::Refusal;
 use inputs::judge_stripe;
 use lines::Grid;
-ghost use Rattle.evenodd.specs.Checks.{Checks, Says};
+ghost use Rattle.coding.specs.Checks.{Checks, Says};
 
 // What check answers: the stripe is intact, or so many rows and diagonals break.
 pub enum Checked {

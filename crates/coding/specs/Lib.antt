@@ -1,0 +1,4 @@
+-- What encode and check promise.
+pub mod Encodes
+pub mod Checks
+pub mod Determined
