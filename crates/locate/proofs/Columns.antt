@@ -9,7 +9,7 @@
 --   turned-tells                what a column tells of which every byte should be zero
 --   picked-rows, picked-diagonals   a lane that was picked
 --   blames-same                 the same amounts by another name
-use mathlib.Core.Path.{_≡_, refl, sym, ap, ap₂, _∙_, subst}
+use mathlib.Core.Path.{_≡_, sym, ap, ap₂, _∙_}
 use mathlib.Core.Logic.{_≢_}
 use mathlib.Core.Bool.{true≢false}
 use mathlib.Core.List.{List}

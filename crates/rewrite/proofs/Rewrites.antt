@@ -1,7 +1,6 @@
 -- Laws for rewriting column u of a stripe, cell after cell or the whole column at once.
 --   two-spans        a cell that was set to a seed and a span, and then had another span added
 --   whole-copied     a column of which each cell was so set in other room, and which was copied from there
---   column-short     a column of short cells is not long
 --   elsewhere        the other columns stay
 --   spans-kept       so do the sums that the cells are rewritten to
 --   rewrote-rows     a data column or H, rewritten by the rows, is the candidate
@@ -11,7 +10,7 @@ use mathlib.Core.Logic.{_≢_}
 use mathlib.Core.Bool.{true, false}
 use mathlib.Core.List.{List, []}
 use Prim.Native.Nat.{ℕ, _+_, _*_, _-_, _%_, _≤_, _<_}
-use native.Mathlib.Nat.{le-refl, mul-le-mul, mul-le-mul-right}
+use native.Mathlib.Nat.{le-refl, mul-le-mul-right}
 use native.Mathlib.Omega.{arith}
 use lib.ListN.{length, getD}
 use borrow.Rule.Slice.PartMut.{putMid}
@@ -62,9 +61,6 @@ module _ (m b c : ℕ) (sized : Sized m b c) where
   whole-copied s seed w v₁ v₂ y e t n z at room size p q so =
       column-copied sized s w v₂ y at _ room size (lined-same (lined-grown (m - 1) b 0 (λ r l. span m (lane m b s l) e ((r + 0) % m) n z) p q) (λ r l hr hl.
       ap (λ (i : ℕ). getD seed l 0 ⊕ span m (lane m b s l) e i 0 t ⊕ span m (lane m b s l) e i n z) (whole-line (omega arith)))) so
-
-  pub column-short : b < 128 → c ≤ 16384
-  column-short h = let q : (m - 1) * b ≤ 126 * 127 = mul-le-mul {n₂ = 126} {m₂ = 127} (omega (arith, sized .few)) (omega arith) in omega (arith, column-is m b c sized)
 
 module _ (m b c u : ℕ) (column : c ≡ columnLength m b) (s : List ℕ) where
   module _ {n : ℕ} {v : List ℕ} {f : ℕ → ℕ → ℕ} (most : n ≤ m - 1) (p : Lined n b (u * c) s v f) where

@@ -1,7 +1,6 @@
 -- `counts::is_small` meets its contract.
 use mathlib.Core.Path.{sym}
 use mathlib.Core.Bool.{true≢false}
-use borrow.Author.Needs.{needs}
 use native.Mathlib.Omega.{arith}
 use Rattle.counts.proofs.is_small.Statement.{statement}
 use Rattle.counts.proofs.is_small.Tie as tie

@@ -1,7 +1,6 @@
 -- `locate::confirm` meets its contract, by what every lane says.
 use mathlib.Core.Logic.{inr}
 use borrow.Author.Needs.{needs}
-use native.Mathlib.Omega.{arith}
 use Rattle.locate.proofs.confirm.Statement.{statement}
 use Rattle.locate.proofs.confirm.Tie as tie
 

@@ -5,7 +5,6 @@ use denote.Ref.{now}
 use Rattle.blame.specs.Blame.{Blames}
 use Rattle.locate.specs.Locate.{rowsAt, diagonalsAt}
 use borrow.Author.Needs.{needs}
-use native.Mathlib.Omega.{arith}
 use Rattle.locate.proofs.judge.Statement.{statement}
 use Rattle.locate.proofs.judge.Tie as tie
 

@@ -3,7 +3,6 @@ use mathlib.Core.Path.{subst}
 use denote.Ref.{now}
 use Rattle.blame.specs.Blame.{Suspects}
 use borrow.Author.Needs.{needs}
-use native.Mathlib.Omega.{arith}
 use Rattle.locate.proofs.locate_long.Statement.{statement}
 use Rattle.locate.proofs.locate_long.Tie as tie
 

@@ -1,8 +1,8 @@
 -- `locate::put_turned` meets its contract, for u = 0 and for other u.
-use Prim.Native.Nat.{ℕ, _+_, _*_, _-_, _≤_, _<_}
+use Prim.Native.Nat.{_*_, _-_}
 use denote.Ref.{now}
-use Rattle.cells.proofs.Parts.{parts-end, part-size}
-use Rattle.lines.proofs.Lines.{column-is, column-most, back-lt}
+use Rattle.cells.proofs.Parts.{part-size}
+use Rattle.lines.proofs.Lines.{column-most, back-lt}
 use Rattle.lines.proofs.Whole.{column-crosses, column-room, seed-none}
 use Rattle.locate.proofs.Columns.{turned-first, turned-other, turned-end}
 use borrow.Author.Needs.{needs}

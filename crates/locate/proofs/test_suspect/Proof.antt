@@ -4,7 +4,6 @@ use mathlib.Core.Bool.{true≢false}
 use denote.Ref.{now}
 use Rattle.locate.proofs.Located.{sure, nobody}
 use borrow.Author.Needs.{needs}
-use native.Mathlib.Omega.{arith}
 use Rattle.locate.proofs.test_suspect.Statement.{statement}
 use Rattle.locate.proofs.test_suspect.Tie as tie
 

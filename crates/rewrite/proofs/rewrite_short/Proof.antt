@@ -1,5 +1,5 @@
 -- `rewrite::rewrite_short` meets its contract: `rewrite_whole_in` does, which is lent room for a cell and for a column.
-use Rattle.rewrite.proofs.Rewrites.{column-short}
+use Rattle.lines.proofs.Whole.{short-column}
 use borrow.Author.Needs.{needs}
 use Rattle.rewrite.proofs.rewrite_short.Statement.{statement}
 use Rattle.rewrite.proofs.rewrite_short.Tie as tie
@@ -22,8 +22,7 @@ part-w-start c = search needs
 part-w-end : tie.Need-part-w-end
 part-w-end c =
     let z = c .before .before in
-    let a = z .args in
-    column-short (a .g .m) (a .g .b) (a .g .column) (z .pre .1) (z .pre .0)
+    short-column (z .pre .1) (z .pre .0)
 
 rewrite-whole-in-requires : tie.Need-rewrite-whole-in-requires
 rewrite-whole-in-requires c κs = search needs
