@@ -1,15 +1,17 @@
 -- What the amounts of all lanes say of the stripe.
+--   summed                    what a column differs by from a line, when the two were summed
 --   rows-are, diagonals-are   the amounts of lane l, as they are summed
 --   sound                     where none is other than zero, the stripe is sound
 --   located                   a column that is confirmed, and none, where lane l breaks
 --   sure, nobody              a suspect that the other columns fit without, and one that they do not
-use mathlib.Core.Path.{_≡_, refl, sym, _∙_, subst}
+use mathlib.Core.Path.{_≡_, refl, sym, ap, _∙_, subst}
 use mathlib.Core.Logic.{⊎-elim}
 use mathlib.Core.List.{List, []}
 use Prim.Native.Nat.{ℕ, _+_, _-_, _%_, _≤_, _<_}
 use native.Mathlib.Decide.{decLt}
 use native.Mathlib.Omega.{arith}
 use lib.ListN.{getD}
+use Rattle.parity.specs.Xor.{_⊕_}
 use Rattle.parity.specs.Shape.{Prime}
 use Rattle.parity.specs.Equations.{amountD, Holds}
 use Rattle.parity.specs.Stripe.{lane}
@@ -17,16 +19,28 @@ use Rattle.parity.specs.Candidate.{FitsBut}
 use Rattle.parity.proofs.Candidate.{rowAmount, row-amount, row-amount-last}
 use Rattle.parity.proofs.Suspects.{hold-h, hold-d, amounts-hold, one-suspect}
 use Rattle.parity.proofs.Theorems.{prime-served}
-use Rattle.lines.specs.Lines.{line, rest}
+use Rattle.lines.specs.Lines.{line, span, rest}
 use Rattle.lines.specs.Rows.{Lined}
 use Rattle.lines.proofs.Lines.{real-in, real-out}
-use Rattle.lines.proofs.Equations.{rest-row, rest-d}
+use Rattle.lines.proofs.Rows.{Grown, lined-same, lined-grown}
+use Rattle.lines.proofs.Amounts.{cell-span}
+use Rattle.lines.proofs.Equations.{rest-span, rest-row, rest-d}
+use Rattle.lines.proofs.Whole.{whole-line}
 use Rattle.fill.proofs.Rows.{first-at}
 use Rattle.blame.specs.Blame.{Sound, Suspects}
 use Rattle.blame.specs.declared.Suspect.{Suspect}
 use Rattle.blame.specs.declared.Suspect.the-variants.{Nothing, Column, Nobody}
 use Rattle.blame.proofs.Fitting.{fit-holds, holds-fit}
-use Rattle.locate.specs.Locate.{Located, rowsAt, diagonalsAt, FitAll, Either, Confirms}
+use Rattle.amounts.specs.Amounts.{rowsAt, diagonalsAt, FitAll, Either, Confirms}
+use Rattle.locate.specs.Locate.{Located}
+
+pub summed : (m b : ℕ) (s seed : List ℕ) (e k t : ℕ) {x y z : List ℕ}
+    → Lined (m - 1) b 0 x y (λ i l. getD seed l 0 ⊕ span m (lane m b s l) e ((i + 0) % m) 0 k)
+    → Grown (m - 1) b 0 y z (λ i l. span m (lane m b s l) 0 ((i + 0) % m) t (t + 1))
+    → Lined (m - 1) b 0 x z (λ i l. rest seed m (lane m b s l) e i k t l)
+summed m b s seed e k t p q = lined-same (lined-grown (m - 1) b 0 (λ i l. span m (lane m b s l) 0 ((i + 0) % m) t (t + 1)) p q) (λ i l hi _.
+    ap (λ (r : ℕ). getD seed l 0 ⊕ span m (lane m b s l) e r 0 k ⊕ span m (lane m b s l) 0 r t (t + 1)) (whole-line (omega arith))
+    ∙ ap (λ (v : ℕ). getD seed l 0 ⊕ span m (lane m b s l) e i 0 k ⊕ v) (cell-span m (lane m b s l) i t (omega arith)) ∙ rest-span seed m (lane m b s l) e i k t l)
 
 module _ (m k b : ℕ) (few : k ≤ m) (s : List ℕ) where
   pub rows-are : {w x : List ℕ} → Lined (m - 1) b 0 w x (λ i l. rest [] m (lane m b s l) 0 i k k l) → (l i : ℕ) → l < b → i < m → rowsAt m b x l i ≡ rowAmount m k (lane m b s l) i

@@ -2,7 +2,7 @@
 use denote.Ref.{now}
 use Rattle.lines.proofs.Lines.{crosses-line}
 use Rattle.lines.proofs.Whole.{row-crosses, diagonal-crosses, column-room}
-use Rattle.locate.proofs.Columns.{summed}
+use Rattle.locate.proofs.Located.{summed}
 use borrow.Author.Needs.{needs}
 use native.Mathlib.Omega.{arith}
 use Rattle.locate.proofs.put_amounts.Statement.{statement}

@@ -1,15 +1,15 @@
--- `locate::judge_picked` meets its contract: the amounts of lane l are picked, with a zero for the imaginary row.
+-- `amounts::judge_picked` meets its contract: the amounts of lane l are picked, with a zero for the imaginary row.
 use Prim.Native.Nat.{_-_}
 use lib.ListN.{length-set}
 use lib.Seq.{getD-set-same}
 use denote.Ref.{now}
 use Rattle.lines.proofs.Lines.{column-is, column-most}
-use Rattle.locate.specs.Locate.{rowsAt, diagonalsAt}
-use Rattle.locate.proofs.Columns.{blames-same, picked-rows, picked-diagonals}
+use Rattle.amounts.specs.Amounts.{rowsAt, diagonalsAt}
+use Rattle.amounts.proofs.Columns.{blames-same, picked-rows, picked-diagonals}
 use borrow.Author.Needs.{needs}
 use native.Mathlib.Omega.{arith}
-use Rattle.locate.proofs.judge_picked.Statement.{statement}
-use Rattle.locate.proofs.judge_picked.Tie as tie
+use Rattle.amounts.proofs.judge_picked.Statement.{statement}
+use Rattle.amounts.proofs.judge_picked.Tie as tie
 
 sub-pick : tie.Need-sub-pick
 sub-pick c = search needs

@@ -1,12 +1,12 @@
--- `locate::judge` meets its contract: the column that lane l tells is confirmed.
+-- `amounts::judge` meets its contract: the column that lane l tells is confirmed.
 use mathlib.Core.Path.{subst}
 use mathlib.Core.Logic.{inl}
 use denote.Ref.{now}
 use Rattle.blame.specs.Blame.{Blames}
-use Rattle.locate.specs.Locate.{rowsAt, diagonalsAt}
+use Rattle.amounts.specs.Amounts.{rowsAt, diagonalsAt}
 use borrow.Author.Needs.{needs}
-use Rattle.locate.proofs.judge.Statement.{statement}
-use Rattle.locate.proofs.judge.Tie as tie
+use Rattle.amounts.proofs.judge.Statement.{statement}
+use Rattle.amounts.proofs.judge.Tie as tie
 
 judge-lane-requires : tie.Need-judge-lane-requires
 judge-lane-requires c κs = search needs

@@ -1,14 +1,14 @@
--- `locate::put_turned` meets its contract, for u = 0 and for other u.
+-- `amounts::put_turned` meets its contract, for u = 0 and for other u.
 use Prim.Native.Nat.{_*_, _-_}
 use denote.Ref.{now}
 use Rattle.cells.proofs.Parts.{part-size}
 use Rattle.lines.proofs.Lines.{column-most, back-lt}
 use Rattle.lines.proofs.Whole.{column-crosses, column-room, seed-none}
-use Rattle.locate.proofs.Columns.{turned-first, turned-other, turned-end}
+use Rattle.amounts.proofs.Columns.{turned-first, turned-other, turned-end}
 use borrow.Author.Needs.{needs}
 use native.Mathlib.Omega.{arith}
-use Rattle.locate.proofs.put_turned.Statement.{statement}
-use Rattle.locate.proofs.put_turned.Tie as tie
+use Rattle.amounts.proofs.put_turned.Statement.{statement}
+use Rattle.amounts.proofs.put_turned.Tie as tie
 
 sub-set-rows : tie.Need-sub-set-rows
 sub-set-rows c = search needs

@@ -1,8 +1,8 @@
--- `locate::confirm` meets its contract, by what every lane says.
+-- `amounts::confirm` meets its contract, by what every lane says.
 use mathlib.Core.Logic.{inr}
 use borrow.Author.Needs.{needs}
-use Rattle.locate.proofs.confirm.Statement.{statement}
-use Rattle.locate.proofs.confirm.Tie as tie
+use Rattle.amounts.proofs.confirm.Statement.{statement}
+use Rattle.amounts.proofs.confirm.Tie as tie
 
 fits-everywhere-requires : tie.Need-fits-everywhere-requires
 fits-everywhere-requires c κs = search needs

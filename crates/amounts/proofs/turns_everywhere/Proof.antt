@@ -1,12 +1,12 @@
--- `locate::turns_everywhere` meets its contract: what is left when y is added to x turned is zero.
+-- `amounts::turns_everywhere` meets its contract: what is left when y is added to x turned is zero.
 use denote.Ref.{now}
 use Rattle.lines.proofs.Lines.{column-is}
 use Rattle.lines.proofs.Whole.{column-room, column-crosses}
-use Rattle.locate.proofs.Columns.{turned-tells}
+use Rattle.amounts.proofs.Columns.{turned-tells}
 use borrow.Author.Needs.{needs}
 use native.Mathlib.Omega.{arith}
-use Rattle.locate.proofs.turns_everywhere.Statement.{statement}
-use Rattle.locate.proofs.turns_everywhere.Tie as tie
+use Rattle.amounts.proofs.turns_everywhere.Statement.{statement}
+use Rattle.amounts.proofs.turns_everywhere.Tie as tie
 
 sub-rows : tie.Need-sub-rows
 sub-rows c = search needs

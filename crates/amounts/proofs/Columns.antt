@@ -2,7 +2,6 @@
 --   set-lane, none-set          a byte that is not zero is in a lane that is odd; where there is none, no lane is
 --   whether-zero                what a test for zero tells
 --   column-zero, zero-column    bytes or-ed together are zero exactly where every lane of every row is
---   summed                      what a column differs by from a line, when the two were summed
 --   turned-end                  where the cell that turns to row m - 1 ends
 --   seed-turned, row-turned     a cell, and a row, of a column that is turned by u
 --   turned-first, turned-other  so is a column that was set, for u = 0 and for other u
@@ -28,19 +27,18 @@ use Rattle.parity.proofs.Xor.{⊕-self, ⊕-comm, ⊕-eq, zero-⊕}
 use Rattle.cells.specs.Runs.{Put, Tells}
 use Rattle.cells.proofs.Parts.{part, part-at, parts-end, by-order}
 use Rattle.cells.proofs.Puts.{put-start}
-use Rattle.lines.specs.Lines.{real, span, rest, Sized}
+use Rattle.lines.specs.Lines.{real, span, Sized}
 use Rattle.lines.specs.Rows.{Lined}
 use Rattle.lines.proofs.Lines.{column-is, up-straight, back-none, real-in, real-out, back-lt}
 use Rattle.lines.proofs.Rows.{Grown, lined-same, lined-grown}
 use Rattle.lines.proofs.Amounts.{cell-span}
-use Rattle.lines.proofs.Equations.{rest-span}
 use Rattle.lines.proofs.Whole.{no-seed, whole-line, turned-by}
 use Rattle.fill.proofs.Rows.{first-at}
 use Rattle.blame.specs.Blame.{First, Odd, Turned, Whether, Fit, Blames}
 use Rattle.blame.specs.declared.Suspect.{Suspect}
 use Rattle.blame.specs.declared.Suspect.the-variants.{Nothing, Column, Nobody}
 use Rattle.blame.proofs.Lanes.{odd-none}
-use Rattle.locate.specs.Locate.{rowsAt, diagonalsAt}
+use Rattle.amounts.specs.Amounts.{rowsAt, diagonalsAt}
 
 -- ---- what is not zero
 
@@ -69,16 +67,6 @@ module _ (m b : ℕ) where
 
 pub whether-zero : {P : Type 0} (r : ℕ) → (r ≡ 0 → P) → (P → r ≡ 0) → Whether (eqb r 0) P
 whether-zero r f g = record { yes = λ e. f (eqb-true r 0 e); no = λ e p. true≢false (sym (eq-eqb r 0 (g p)) ∙ e) }
-
--- ---- what a column differs by
-
-pub summed : (m b : ℕ) (s seed : List ℕ) (e k t : ℕ) {x y z : List ℕ}
-    → Lined (m - 1) b 0 x y (λ i l. getD seed l 0 ⊕ span m (lane m b s l) e ((i + 0) % m) 0 k)
-    → Grown (m - 1) b 0 y z (λ i l. span m (lane m b s l) 0 ((i + 0) % m) t (t + 1))
-    → Lined (m - 1) b 0 x z (λ i l. rest seed m (lane m b s l) e i k t l)
-summed m b s seed e k t p q = lined-same (lined-grown (m - 1) b 0 (λ i l. span m (lane m b s l) 0 ((i + 0) % m) t (t + 1)) p q) (λ i l hi _.
-    ap (λ (r : ℕ). getD seed l 0 ⊕ span m (lane m b s l) e r 0 k ⊕ span m (lane m b s l) 0 r t (t + 1)) (whole-line (omega arith))
-    ∙ ap (λ (v : ℕ). getD seed l 0 ⊕ span m (lane m b s l) e i 0 k ⊕ v) (cell-span m (lane m b s l) i t (omega arith)) ∙ rest-span seed m (lane m b s l) e i k t l)
 
 -- ---- turned by u rows
 

@@ -1,4 +1,4 @@
--- `locate::pick` meets its contract. The invariant: the bytes before i are picked, the others as they were.
+-- `amounts::pick` meets its contract. The invariant: the bytes before i are picked, the others as they were.
 use mathlib.Core.Path.{_≡_, refl, subst}
 use Prim.Native.Nat.{ℕ, _+_, _*_, _-_, _≤_}
 use lib.ListN.{getD, set}
@@ -8,8 +8,8 @@ use Rattle.cells.proofs.Parts.{parts-end}
 use Rattle.cells.proofs.Puts.{put-none, put-one, put-count}
 use borrow.Author.Needs.{needs}
 use native.Mathlib.Omega.{arith}
-use Rattle.locate.proofs.pick.Statement.{statement}
-use Rattle.locate.proofs.pick.Tie as tie
+use Rattle.amounts.proofs.pick.Statement.{statement}
+use Rattle.amounts.proofs.pick.Tie as tie
 
 abbrev Inv-loop : tie.InvT-loop
 Inv-loop h₀ x b l n i₀ h i = (i ≤ n) × Put h₀ h 0 i (λ i. getD x (i * b + l) 0)

@@ -1,8 +1,8 @@
--- `locate::lane_among` meets its contract: a lane of x, or else one of y.
+-- `amounts::lane_among` meets its contract: a lane of x, or else one of y.
 use borrow.Author.Needs.{needs}
 use native.Mathlib.Omega.{arith}
-use Rattle.locate.proofs.lane_among.Statement.{statement}
-use Rattle.locate.proofs.lane_among.Tie as tie
+use Rattle.amounts.proofs.lane_among.Statement.{statement}
+use Rattle.amounts.proofs.lane_among.Tie as tie
 
 lane-set-requires : tie.Need-lane-set-requires
 lane-set-requires c κs = search needs

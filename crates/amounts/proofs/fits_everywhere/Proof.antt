@@ -1,4 +1,4 @@
--- `locate::fits_everywhere` meets its contract, by kind of column.
+-- `amounts::fits_everywhere` meets its contract, by kind of column.
 use mathlib.Core.Path.{_≡_, sym, _∙_, subst}
 use Prim.Native.Nat.{_+_, _*_, _-_, _<_}
 use lib.ListN.{length}
@@ -7,12 +7,12 @@ use Rattle.parity.specs.Stripe.{lane}
 use Rattle.lines.proofs.Lines.{column-is, real-in}
 use Rattle.blame.specs.Blame.{Fit}
 use Rattle.blame.proofs.Fitting.{fit-data, fit-h, fit-d}
-use Rattle.locate.specs.Locate.{rowsAt, diagonalsAt}
-use Rattle.locate.proofs.Columns.{whether-zero, column-zero, zero-column}
+use Rattle.amounts.specs.Amounts.{rowsAt, diagonalsAt}
+use Rattle.amounts.proofs.Columns.{whether-zero, column-zero, zero-column}
 use borrow.Author.Needs.{needs}
 use native.Mathlib.Omega.{arith}
-use Rattle.locate.proofs.fits_everywhere.Statement.{statement}
-use Rattle.locate.proofs.fits_everywhere.Tie as tie
+use Rattle.amounts.proofs.fits_everywhere.Statement.{statement}
+use Rattle.amounts.proofs.fits_everywhere.Tie as tie
 
 turns-everywhere-requires : tie.Need-turns-everywhere-requires
 turns-everywhere-requires c κs = search needs

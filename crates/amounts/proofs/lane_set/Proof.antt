@@ -1,11 +1,11 @@
--- `locate::lane_set` meets its contract, by the first byte that is not zero.
+-- `amounts::lane_set` meets its contract, by the first byte that is not zero.
 use denote.Ref.{now}
 use Rattle.lines.proofs.Lines.{column-is}
-use Rattle.locate.proofs.Columns.{set-lane, none-set}
+use Rattle.amounts.proofs.Columns.{set-lane, none-set}
 use borrow.Author.Needs.{needs}
 use native.Mathlib.Omega.{arith}
-use Rattle.locate.proofs.lane_set.Statement.{statement}
-use Rattle.locate.proofs.lane_set.Tie as tie
+use Rattle.amounts.proofs.lane_set.Statement.{statement}
+use Rattle.amounts.proofs.lane_set.Tie as tie
 
 find-set-requires : tie.Need-find-set-requires
 find-set-requires c κs = search needs
