@@ -22,6 +22,7 @@ use Rattle.cells.proofs.Puts.{put-same}
 use Rattle.cells.proofs.Tells.{tells-same}
 use Rattle.lines.specs.Lines.{seedOf}
 use Rattle.lines.specs.Rows.{Lined}
+use Rattle.lines.proofs.Seeds.{seed-fresh, seed-kept}
 use Rattle.lines.proofs.Rows.{Grown, lined-more, lined-same, lined-grown}
 
 -- as many rows as a band has room for
@@ -34,14 +35,6 @@ band-room r b n h = le-trans (mul-le-mul-right b h) (div-mul-le-self n b)
 pub seed-none : (s w : List ℕ) (to l : ℕ) → seedOf true (part s 0 0) w to l ≡ 0
 unfolding seedOf
 seed-none s w to l = refl
-
-seed-fresh : (x w : List ℕ) (to l : ℕ) → seedOf true x w to l ≡ getD x l 0
-unfolding seedOf
-seed-fresh x w to l = refl
-
-seed-held : (x w : List ℕ) (to l : ℕ) → seedOf false x w to l ≡ getD w (to + l) 0
-unfolding seedOf
-seed-held x w to l = refl
 
 seed-same : (fresh : Bool) (x w u : List ℕ) (to l : ℕ) → getD u (to + l) 0 ≡ getD w (to + l) 0 → seedOf fresh x u to l ≡ seedOf fresh x w to l
 unfolding seedOf
@@ -57,12 +50,12 @@ seeded-more n b fresh x w u v f p q =
 
 module _ (n b : ℕ) (x w : List ℕ) where
   pub band-fresh : {v : List ℕ} (f : ℕ → ℕ → ℕ) → Lined n b 0 w v (λ r l. seedOf true x w (r * b) l ⊕ f r l) → Lined n b 0 w v (λ r l. getD x l 0 ⊕ f r l)
-  band-fresh f p = lined-same p (λ r l _ _. ap (λ (y : ℕ). y ⊕ f r l) (seed-fresh x w (r * b) l))
+  band-fresh f p = lined-same p (λ r l _ _. ap (λ (y : ℕ). y ⊕ f r l) (seed-fresh x w (r * b) l refl))
 
   pub band-held : {v : List ℕ} (f : ℕ → ℕ → ℕ) → Lined n b 0 w v (λ r l. seedOf false x w (r * b) l ⊕ f r l) → Grown n b 0 w v f
   band-held f p = lined-same p (λ r l _ _.
       let e : r * b + l ≡ 0 + (r * b + l) = omega arith in
-      ap (λ (y : ℕ). y ⊕ f r l) (seed-held x w (r * b) l ∙ ap (λ (y : ℕ). getD w y 0) e))
+      ap (λ (y : ℕ). y ⊕ f r l) (seed-kept x w (r * b) l refl ∙ ap (λ (y : ℕ). getD w y 0) e))
 
   pub band-more : {u v : List ℕ} (f g h : ℕ → ℕ → ℕ) → Lined n b 0 w u (λ r l. getD x l 0 ⊕ f r l) → Grown n b 0 u v g
       → ((r l : ℕ) → f r l ⊕ g r l ≡ h r l) → Lined n b 0 w v (λ r l. getD x l 0 ⊕ h r l)

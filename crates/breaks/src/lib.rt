@@ -82,7 +82,7 @@ fn fold_part(acc: &mut [u8], seed: &[u8], s: &[u8], at: &[usize], j: usize) -> u
     cells::any(acc)
 }
 
-// The same of a whole cell of b lanes, 128 and more, 128 at a time; the last 128 may overlap those before.
+// The same of a whole cell of b lanes, 128 at a time; the last 128 may overlap those before.
 fn fold_long(seed: &[u8], s: &[u8], b: usize, at: &[usize]) -> u8
     requires { ⌜ (128 ≤ b) × (b ≤ length (now seed)) × Within (now at) (length (now at)) b (length (now s)) ⌝ }
     ensures { λ r. ⌜ Tells r b (λ l. getD (now (seed .entry)) l 0 ⊕ total (now (at .entry)) (length (now (at .entry))) (now (s .entry)) l) ⌝ }
@@ -98,53 +98,14 @@ fn fold_long(seed: &[u8], s: &[u8], b: usize, at: &[usize]) -> u8
     o | fold_part(&mut acc, seed, s, at, last)
 }
 
-// The same of 16 lanes and more, 16 at a time.
-fn fold_sixteen(seed: &[u8], s: &[u8], b: usize, at: &[usize]) -> u8
-    requires { ⌜ (16 ≤ b) × (b ≤ length (now seed)) × Within (now at) (length (now at)) b (length (now s)) ⌝ }
-    ensures { λ r. ⌜ Tells r b (λ l. getD (now (seed .entry)) l 0 ⊕ total (now (at .entry)) (length (now (at .entry))) (now (s .entry)) l) ⌝ }
-{
-    let last = b - 16;
-    let mut acc = [0u8; 16];
-    let mut o: u8 = 0;
-    let mut j: usize = 0;
-    while j < last {
-        o = o | fold_part(&mut acc, seed, s, at, j);
-        j += 16;
-    }
-    o | fold_part(&mut acc, seed, s, at, last)
-}
-
-// The same of at most 16 lanes.
-fn fold_short(seed: &[u8], s: &[u8], b: usize, at: &[usize]) -> u8
-    requires { ⌜ (b ≤ 16) × (b ≤ length (now seed)) × Within (now at) (length (now at)) b (length (now s)) ⌝ }
-    ensures { λ r. ⌜ Tells r b (λ l. getD (now (seed .entry)) l 0 ⊕ total (now (at .entry)) (length (now (at .entry))) (now (s .entry)) l) ⌝ }
-{
-    let mut acc = [0u8; 16];
-    fold_part(&mut acc[0..b], seed, s, at, 0)
-}
-
-// The same of any number of lanes.
-fn fold_cells(seed: &[u8], s: &[u8], b: usize, at: &[usize]) -> u8
-    requires { ⌜ (b ≤ length (now seed)) × Within (now at) (length (now at)) b (length (now s)) ⌝ }
-    ensures { λ r. ⌜ Tells r b (λ l. getD (now (seed .entry)) l 0 ⊕ total (now (at .entry)) (length (now (at .entry))) (now (s .entry)) l) ⌝ }
-{
-    if 128 <= b {
-        return fold_long(seed, s, b, at);
-    }
-    if 16 <= b {
-        return fold_sixteen(seed, s, b, at);
-    }
-    fold_short(seed, s, b, at)
-}
-
 // The cell seed plus line d, or-ed together: 0 where the sum is. at is room for the places of the line's cells.
 fn fold_line(at: &mut [usize], seed: &[u8], s: &[u8], g: Grid, k: usize, u: usize, d: usize) -> u8
-    requires { ⌜ (length (now seed) ≡ g .b) × (2 + 2 * k ≤ length (now at)) × (d < g .m) × (k ≤ g .m) × Sized (g .m) (g .b) (g .column) × (length (now s) ≡ (k + 2) * g .column) ⌝ }
+    requires { ⌜ (length (now seed) ≡ g .b) × (2 + 2 * k ≤ length (now at)) × (d < g .m) × (k ≤ g .m) × Sized (g .m) (g .b) (g .column) × (length (now s) ≡ (k + 2) * g .column) × (128 ≤ g .b) ⌝ }
     ensures { λ o. ⌜ Tells o (g .b) (λ l. getD (now (seed .entry)) l 0 ⊕ lineBut (g .m) k (lane (g .m) (g .b) (now (s .entry)) l) u d) ⌝ }
 {
     let b = g.b;
     let n = find_line(at, g, k, u, d, 0, k);
-    fold_cells(seed, s, b, &at[0..n])
+    fold_long(seed, s, b, &at[0..n])
 }
 
 // sum becomes line m - 1. at is room for the places of its cells.
@@ -160,7 +121,7 @@ pub fn sum_line(at: &mut [usize], sum: &mut [u8], s: &[u8], g: Grid, k: usize, u
 
 // How many of lines 0 to m - 2 differ from the cell sum.
 fn count_straight(at: &mut [usize], sum: &[u8], s: &[u8], g: Grid, k: usize, u: usize) -> usize
-    requires { ⌜ (length (now sum) ≡ g .b) × (2 + 2 * k ≤ length (now at)) × (k ≤ g .m) × Sized (g .m) (g .b) (g .column) × (length (now s) ≡ (k + 2) * g .column) ⌝ }
+    requires { ⌜ (length (now sum) ≡ g .b) × (2 + 2 * k ≤ length (now at)) × (k ≤ g .m) × Sized (g .m) (g .b) (g .column) × (length (now s) ≡ (k + 2) * g .column) × (128 ≤ g .b) ⌝ }
     ensures { λ r. ⌜ r ≡ breaking (g .m - 1) (g .b) (λ l d. getD (now (sum .entry)) l 0 ⊕ lineBut (g .m) k (lane (g .m) (g .b) (now (s .entry)) l) u d) ⌝ }
 {
     let mut n: usize = 0;
@@ -174,7 +135,7 @@ fn count_straight(at: &mut [usize], sum: &[u8], s: &[u8], g: Grid, k: usize, u: 
 
 // How many of lines 0 to m - 2 differ from line m - 1. sum is room for line m - 1.
 fn count_summed(at: &mut [usize], sum: &mut [u8], s: &[u8], g: Grid, k: usize, u: usize) -> usize
-    requires { ⌜ (length (now sum) ≡ g .b) × (2 + 2 * k ≤ length (now at)) × (k ≤ g .m) × Sized (g .m) (g .b) (g .column) × (length (now s) ≡ (k + 2) * g .column) ⌝ }
+    requires { ⌜ (length (now sum) ≡ g .b) × (2 + 2 * k ≤ length (now at)) × (k ≤ g .m) × Sized (g .m) (g .b) (g .column) × (length (now s) ≡ (k + 2) * g .column) × (128 ≤ g .b) ⌝ }
     ensures { λ r. ⌜ r ≡ breaking (g .m - 1) (g .b) (λ l d. lineBut (g .m) k (lane (g .m) (g .b) (now (s .entry)) l) u (g .m - 1) ⊕ lineBut (g .m) k (lane (g .m) (g .b) (now (s .entry)) l) u d) ⌝ }
 {
     sum_line(at, sum, s, g, k, u);
@@ -183,7 +144,7 @@ fn count_summed(at: &mut [usize], sum: &mut [u8], s: &[u8], g: Grid, k: usize, u
 
 // The same where there are few columns, with room of its own: little where a cell is short, since room is cleared before it is used.
 fn few_short(s: &[u8], g: Grid, k: usize, u: usize) -> usize
-    requires { ⌜ (g .b ≤ 512) × (k ≤ 32) × (k ≤ g .m) × Sized (g .m) (g .b) (g .column) × (length (now s) ≡ (k + 2) * g .column) ⌝ }
+    requires { ⌜ (g .b ≤ 512) × (k ≤ 32) × (k ≤ g .m) × Sized (g .m) (g .b) (g .column) × (length (now s) ≡ (k + 2) * g .column) × (128 ≤ g .b) ⌝ }
     ensures { λ r. ⌜ r ≡ breaking (g .m - 1) (g .b) (λ l d. lineBut (g .m) k (lane (g .m) (g .b) (now (s .entry)) l) u (g .m - 1) ⊕ lineBut (g .m) k (lane (g .m) (g .b) (now (s .entry)) l) u d) ⌝ }
 {
     let b = g.b;
@@ -194,7 +155,7 @@ fn few_short(s: &[u8], g: Grid, k: usize, u: usize) -> usize
 
 // The same, with room for any cell.
 fn few_long(s: &[u8], g: Grid, k: usize, u: usize) -> usize
-    requires { ⌜ (k ≤ 32) × (k ≤ g .m) × Sized (g .m) (g .b) (g .column) × (length (now s) ≡ (k + 2) * g .column) ⌝ }
+    requires { ⌜ (k ≤ 32) × (k ≤ g .m) × Sized (g .m) (g .b) (g .column) × (length (now s) ≡ (k + 2) * g .column) × (128 ≤ g .b) ⌝ }
     ensures { λ r. ⌜ r ≡ breaking (g .m - 1) (g .b) (λ l d. lineBut (g .m) k (lane (g .m) (g .b) (now (s .entry)) l) u (g .m - 1) ⊕ lineBut (g .m) k (lane (g .m) (g .b) (now (s .entry)) l) u d) ⌝ }
 {
     let b = g.b;
@@ -205,7 +166,7 @@ fn few_long(s: &[u8], g: Grid, k: usize, u: usize) -> usize
 
 // The same where there are few columns.
 fn count_few(s: &[u8], g: Grid, k: usize, u: usize) -> usize
-    requires { ⌜ (k ≤ 32) × (k ≤ g .m) × Sized (g .m) (g .b) (g .column) × (length (now s) ≡ (k + 2) * g .column) ⌝ }
+    requires { ⌜ (k ≤ 32) × (k ≤ g .m) × Sized (g .m) (g .b) (g .column) × (length (now s) ≡ (k + 2) * g .column) × (128 ≤ g .b) ⌝ }
     ensures { λ r. ⌜ r ≡ breaking (g .m - 1) (g .b) (λ l d. lineBut (g .m) k (lane (g .m) (g .b) (now (s .entry)) l) u (g .m - 1) ⊕ lineBut (g .m) k (lane (g .m) (g .b) (now (s .entry)) l) u d) ⌝ }
 {
     if g.b <= 512 {
@@ -388,7 +349,7 @@ fn count_many(s: &[u8], g: Grid, k: usize, u: usize) -> usize
 
 // How many of lines 0 to m - 2 differ from line m - 1: by places, where cells are long.
 pub fn count_long(s: &[u8], g: Grid, k: usize, u: usize) -> usize
-    requires { ⌜ (k ≤ g .m) × Sized (g .m) (g .b) (g .column) × (length (now s) ≡ (k + 2) * g .column) ⌝ }
+    requires { ⌜ (k ≤ g .m) × Sized (g .m) (g .b) (g .column) × (length (now s) ≡ (k + 2) * g .column) × (128 ≤ g .b) ⌝ }
     ensures { λ r. ⌜ r ≡ breaking (g .m - 1) (g .b) (λ l d. lineBut (g .m) k (lane (g .m) (g .b) (now (s .entry)) l) u (g .m - 1) ⊕ lineBut (g .m) k (lane (g .m) (g .b) (now (s .entry)) l) u d) ⌝ }
 {
     if k <= 32 {

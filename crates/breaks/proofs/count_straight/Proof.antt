@@ -32,7 +32,7 @@ fold-line-requires : tie.Need-fold-line-requires Inv-loop μ-loop
 fold-line-requires c κs =
     let z = c .before .before .before .before .before .before .before in
     let y = c .before .before .loop .inv in
-    (z .pre .0, omega (arith, z .pre .1, y .0), omega (arith, y .1, c .before .loop-test .taken), z .pre .2, z .pre .3, z .pre .4)
+    (z .pre .0, omega (arith, z .pre .1, y .0), omega (arith, y .1, c .before .loop-test .taken), z .pre .2, z .pre .3, z .pre .4, z .pre .5)
 
 add-n : tie.Need-add-n Inv-loop μ-loop
 add-n c = search needs

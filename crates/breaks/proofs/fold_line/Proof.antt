@@ -16,19 +16,19 @@ use Rattle.breaks.proofs.fold_line.Tie as tie
 find-line-requires : tie.Need-find-line-requires
 find-line-requires c κs = search needs
 
-sub-fold-cells : tie.Need-sub-fold-cells
-sub-fold-cells c = search needs
+sub-fold-long : tie.Need-sub-fold-long
+sub-fold-long c = search needs
 
-part-fold-cells-start : tie.Need-part-fold-cells-start
-part-fold-cells-start c = search needs
+part-fold-long-start : tie.Need-part-fold-long-start
+part-fold-long-start c = search needs
 
-part-fold-cells-end : tie.Need-part-fold-cells-end
-part-fold-cells-end c = search needs
+part-fold-long-end : tie.Need-part-fold-long-end
+part-fold-long-end c = search needs
 
-fold-cells-requires : tie.Need-fold-cells-requires
-fold-cells-requires c κs =
+fold-long-requires : tie.Need-fold-long-requires
+fold-long-requires c κs =
     let z = c .before .before .before .before .before .before .before .before .before in
-    (omega (arith, z .pre .0), listed-in (c .before .before .before .before .find-line .ensures) (omega (arith, z .pre .1)) (length (now (z .args .s))) (omega (arith, z .pre .5)))
+    (z .pre .6, omega (arith, z .pre .0), listed-in (c .before .before .before .before .find-line .ensures) (omega (arith, z .pre .1)) (length (now (z .args .s))) (omega (arith, z .pre .5)))
 
 same-length : tie.Need-same-length
 same-length c = search needs
@@ -37,7 +37,7 @@ returns : tie.Need-returns
 returns c =
     let z = c .before .before .before .before .before .before .before .before .before .before in
     let a = z .args in
-    tells-same (c .fold-cells .ensures) (λ l h.
+    tells-same (c .fold-long .ensures) (λ l h.
     ap (λ (x : ℕ). getD (now (a .seed)) l 0 ⊕ x) (listed-total (c .before .before .before .before .before .find-line .ensures) (omega (arith, z .pre .1)) (now (a .s)) l ∙ window-line (a .g .m) (a .k) (lane (a .g .m) (a .g .b) (now (a .s)) l) (a .u) (a .d)))
 
 pub fold-line-spec : {M : Type 1} → statement M
@@ -45,9 +45,9 @@ fold-line-spec =
     tie.close
     (tie.spec
     find-line-requires
-    sub-fold-cells
-    part-fold-cells-start
-    part-fold-cells-end
-    fold-cells-requires
+    sub-fold-long
+    part-fold-long-start
+    part-fold-long-end
+    fold-long-requires
     same-length
     returns)
