@@ -7,7 +7,7 @@ ghost use lib.ListN.{length, getD};
 ghost use Rattle.parity.specs.Xor.{_⊕_};
 ghost use Rattle.parity.specs.Stripe.{lane};
 ghost use Rattle.cells.specs.Runs.{Put};
-ghost use Rattle.lines.specs.Lines.{real, span, Sized, Crosses};
+ghost use Rattle.lines.specs.Lines.{real, span, ended, Sized, Crosses};
 ghost use Rattle.lines.specs.Places.{blank, total, Within};
 ghost use Rattle.fill.specs.Fill.{seedOf, Lined, BothAdded};
 use lines::Grid;
@@ -173,6 +173,31 @@ fn fill_group(
     fill_places(w, seed, fresh, s, b, &at[0..n], to);
 }
 
+// The cell at `to` becomes the cell seed, of which an empty one is zero, plus line i over the first n columns, at most ten, with its end, the
+// cell in row i of column h: all but what stands in columns u and v.
+pub fn fill_ended(
+    w: &mut [u8],
+    seed: &[u8],
+    s: &[u8],
+    g: Grid,
+    slant: usize,
+    i: usize,
+    h: usize,
+    n: usize,
+    u: usize,
+    v: usize,
+    to: usize,
+)
+    requires { ⌜ (0 < length (now seed) → g .b ≤ length (now seed)) × (to + g .b ≤ length (now w)) × (n ≤ 10) × (h < 129) × (h * g .column + g .column ≤ length (now s)) × Sized (g .m) (g .b) (g .column) × Crosses (g .m) (g .column) (length (now s)) slant i 0 n ⌝ }
+    ensures { λ _. ⌜ Put (now (w .entry)) (now (w .exit)) to (g .b) (λ l. getD (now (seed .entry)) l 0 ⊕ ended (g .m) (blank u v (lane (g .m) (g .b) (now (s .entry)) l)) slant i h n) ⌝ }
+{
+    let b = g.b;
+    let mut at = [0usize; 11];
+    let x = lines::add_place_but(&mut at, 0, g, h, i, u, v);
+    let y = lines::add_places(&mut at, x, g, slant, i, 0, n, u, v);
+    fill_places(w, seed, true, s, b, &at[0..y], to);
+}
+
 // The cell at `at` gets line i over the columns from t0 up to t1, at most ten, but u and v, added.
 fn add_line(
     w: &mut [u8],
@@ -237,7 +262,7 @@ pub fn fill_cell(
 }
 
 // The row below row r, modulo m.
-fn row_below(m: usize, r: usize) -> usize
+pub fn row_below(m: usize, r: usize) -> usize
     requires { ⌜ (r < m) × (m ≤ 127) ⌝ }
     ensures { λ x. ⌜ x ≡ (r + 1) % m ⌝ }
 {

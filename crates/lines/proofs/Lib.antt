@@ -8,3 +8,4 @@ pub mod Seeds
 pub mod Valid
 pub mod Amounts
 pub mod Whole
+pub mod Ended

@@ -3,7 +3,8 @@
 --   listed-same, listed-ends               the same cells by another name, and within more bytes
 --   total-none, total-more                 no place, and one more
 --   total-part, within-part                the first n places, lent as a part of `at`
---   blank-real, blank-out                  a column that is not left out, and one that is
+--   blank-other, first-blank, second-blank   a column that is not left out, and those that are
+--   blank-real, blank-first, blank-second    the same of a cell that may be imaginary
 --   blank-span                             a line over columns none of which is left out
 --   blank-one, blank-two                   a line over the columns from 0 on but one, and but two
 use mathlib.Core.Path.{_≡_, refl, sym, ap, _∙_, subst}
@@ -112,7 +113,7 @@ unfolding real
 real-none m a r t h = ap (λ (x : ℕ). cond (ltb r (m - 1)) x 0) h ∙ cond-none (ltb r (m - 1))
 
 module _ (m u v : ℕ) (a : Lane) where
-  blank-other : (r t : ℕ) → t ≢ u → t ≢ v → blank u v a r t ≡ a r t
+  pub blank-other : (r t : ℕ) → t ≢ u → t ≢ v → blank u v a r t ≡ a r t
   unfolding blank
   blank-other r t h k = ap (λ (c : Bool). cond c 0 (cond (eqb t v) 0 (a r t))) (ne-eqb t u h) ∙ ap (λ (c : Bool). cond c 0 (a r t)) (ne-eqb t v k)
 
@@ -120,11 +121,11 @@ module _ (m u v : ℕ) (a : Lane) where
   unfolding real
   blank-real r t h k = ap (λ (x : ℕ). cond (ltb r (m - 1)) x 0) (blank-other r t h k)
 
-  first-blank : (r t : ℕ) → t ≡ u → blank u v a r t ≡ 0
+  pub first-blank : (r t : ℕ) → t ≡ u → blank u v a r t ≡ 0
   unfolding blank
   first-blank r t h = ap (λ (c : Bool). cond c 0 (cond (eqb t v) 0 (a r t))) (eq-eqb t u h)
 
-  second-blank : (r t : ℕ) → t ≡ v → blank u v a r t ≡ 0
+  pub second-blank : (r t : ℕ) → t ≡ v → blank u v a r t ≡ 0
   unfolding blank
   second-blank r t h = ap (λ (c : Bool). cond (eqb t u) 0 (cond c 0 (a r t))) (eq-eqb t v h) ∙ cond-none (eqb t u)
 

@@ -2,6 +2,7 @@
 --   real m a r t        the byte in row r of column t; row m - 1 is zero
 --   line m a e i n      the sum of line i over the first n columns: with slant e = 0 it is row i, with e = 1 diagonal i
 --   span m a e i x y    the same over the columns from x up to y: the sum over all below y without that over all below x
+--   ended m a e i h n   line i over the first n columns with its end, the cell in row i of column h: H's cell ends a row, D's a diagonal
 --   rest x m a e i k t l   what lane l of the cell in row i of column t differs by from the cell x plus line i over the first k columns
 --   seedOf fresh seed w at l   what lane l of the cell of w at `at` starts from: the cell `seed` where it is set afresh, else what it holds
 --   Sized m b c         the numbers of a shape, as far as loops need them, with c the bytes of a column
@@ -25,6 +26,9 @@ line m a e i n = sum n (λ t. real m a (back m i (e * t)) t)
 
 unfoldable pub span : ℕ → Lane → ℕ → ℕ → ℕ → ℕ → ℕ
 span m a e i x y = line m a e i x ⊕ line m a e i y
+
+unfoldable pub ended : ℕ → Lane → ℕ → ℕ → ℕ → ℕ → ℕ
+ended m a e i h n = real m a i h ⊕ span m a e i 0 n
 
 unfoldable pub rest : List ℕ → ℕ → Lane → ℕ → ℕ → ℕ → ℕ → ℕ → ℕ
 rest x m a e i k t l = getD x l 0 ⊕ line m a e i k ⊕ real m a i t

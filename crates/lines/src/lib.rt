@@ -124,7 +124,15 @@ pub fn add_place(at: &mut [usize], n: usize, g: Grid, t: usize, r: usize) -> usi
 }
 
 // The same, unless t is u or v.
-fn add_other(at: &mut [usize], n: usize, g: Grid, t: usize, r: usize, u: usize, v: usize) -> usize
+pub fn add_place_but(
+    at: &mut [usize],
+    n: usize,
+    g: Grid,
+    t: usize,
+    r: usize,
+    u: usize,
+    v: usize,
+) -> usize
     requires { ⌜ (n < length (now at)) × (t < 129) × Sized (g .m) (g .b) (g .column) ⌝ }
     ensures { λ x. ⌜ Listed (g .b) (t * g .column + g .column) n x 1 (now (at .entry)) (now (at .exit)) (λ s l. real (g .m) (blank u v (lane (g .m) (g .b) s l)) r t) ⌝ }
 {
@@ -157,7 +165,7 @@ pub fn add_places(
     let mut x = n;
     let mut r = row_above(m, i, slant * t0);
     for t in t0..t1 {
-        x = add_other(at, x, g, t, r, u, v);
+        x = add_place_but(at, x, g, t, r, u, v);
         r = row_above(m, r, slant);
     }
     x

@@ -4,7 +4,8 @@ ghost use Prim.Native.Nat.{_+_, _*_, _%_, _≤_, _<_};
 ghost use lib.ListN.{length, getD};
 ghost use Rattle.parity.specs.Xor.{_⊕_};
 ghost use Rattle.parity.specs.Stripe.{lane};
-ghost use Rattle.lines.specs.Lines.{span, Sized, Crosses};
+ghost use Rattle.lines.specs.Lines.{span, ended, Sized, Crosses};
+ghost use Rattle.lines.specs.Places.{blank};
 ghost use Rattle.lines.specs.Rows.{Lined};
 
 // Of the `rows` cells from `at` on each cell r becomes the cell seed, of which an empty one is zero, plus line r + shift modulo m over
@@ -95,4 +96,106 @@ pub fn set_rows(
     } else {
         set_by_cells(w, at, seed, s, g, slant, shift, rows, t0, t1);
     }
+}
+
+// Of the `rows` cells from `at` on each cell r becomes the cell seed, of which an empty one is zero, plus line r + shift modulo m over the first
+// n columns, at most ten, with its end in column h: all but what stands in columns u and v. Cell by cell.
+fn first_by_cells(
+    w: &mut [u8],
+    at: usize,
+    seed: &[u8],
+    s: &[u8],
+    g: Grid,
+    slant: usize,
+    shift: usize,
+    rows: usize,
+    h: usize,
+    n: usize,
+    u: usize,
+    v: usize,
+)
+    requires { ⌜ (0 < length (now seed) → g .b ≤ length (now seed)) × (at + rows * g .b ≤ length (now w)) × (rows < g .m) × (shift < g .m) × (n ≤ 10) × (h < 129) × (h * g .column + g .column ≤ length (now s)) × Sized (g .m) (g .b) (g .column) × Crosses (g .m) (g .column) (length (now s)) slant 0 0 n ⌝ }
+    ensures { λ _. ⌜ Lined rows (g .b) at (now (w .entry)) (now (w .exit)) (λ r l. getD (now (seed .entry)) l 0 ⊕ ended (g .m) (blank u v (lane (g .m) (g .b) (now (s .entry)) l)) slant ((r + shift) % g .m) h n) ⌝ }
+{
+    let m = g.m;
+    let b = g.b;
+    let mut i = shift;
+    for r in 0..rows {
+        fill::fill_ended(w, seed, s, g, slant, i, h, n, u, v, at + r * b);
+        i = fill::row_below(m, i);
+    }
+}
+
+// The same, for short cells: first the seed in every cell, then the ends, and then column by column.
+fn first_by_columns(
+    w: &mut [u8],
+    at: usize,
+    seed: &[u8],
+    s: &[u8],
+    g: Grid,
+    slant: usize,
+    shift: usize,
+    rows: usize,
+    h: usize,
+    n: usize,
+    u: usize,
+    v: usize,
+)
+    requires { ⌜ (0 < length (now seed) → g .b ≤ length (now seed)) × (at + rows * g .b ≤ length (now w)) × (rows < g .m) × (shift < g .m) × (h < 129) × (h * g .column + g .column ≤ length (now s)) × Sized (g .m) (g .b) (g .column) × Crosses (g .m) (g .column) (length (now s)) slant 0 0 n ⌝ }
+    ensures { λ _. ⌜ Lined rows (g .b) at (now (w .entry)) (now (w .exit)) (λ r l. getD (now (seed .entry)) l 0 ⊕ ended (g .m) (blank u v (lane (g .m) (g .b) (now (s .entry)) l)) slant ((r + shift) % g .m) h n) ⌝ }
+{
+    let b = g.b;
+    seed_rows(w, at, seed, rows, b);
+    fill::fill_but(w, at, s, g, 0, shift, rows, h, h + 1, u, v);
+    fill::fill_but(w, at, s, g, slant, shift, rows, 0, n, u, v);
+}
+
+// The same, in the way that suits the cells.
+pub fn set_first(
+    w: &mut [u8],
+    at: usize,
+    seed: &[u8],
+    s: &[u8],
+    g: Grid,
+    slant: usize,
+    shift: usize,
+    rows: usize,
+    h: usize,
+    n: usize,
+    u: usize,
+    v: usize,
+)
+    requires { ⌜ (0 < length (now seed) → g .b ≤ length (now seed)) × (at + rows * g .b ≤ length (now w)) × (rows < g .m) × (shift < g .m) × (n ≤ 10) × (h < 129) × (h * g .column + g .column ≤ length (now s)) × Sized (g .m) (g .b) (g .column) × Crosses (g .m) (g .column) (length (now s)) slant 0 0 n ⌝ }
+    ensures { λ _. ⌜ Lined rows (g .b) at (now (w .entry)) (now (w .exit)) (λ r l. getD (now (seed .entry)) l 0 ⊕ ended (g .m) (blank u v (lane (g .m) (g .b) (now (s .entry)) l)) slant ((r + shift) % g .m) h n) ⌝ }
+{
+    if 128 <= g.b {
+        first_by_cells(w, at, seed, s, g, slant, shift, rows, h, n, u, v);
+    } else if rows == 1 {
+        first_by_cells(w, at, seed, s, g, slant, shift, rows, h, n, u, v);
+    } else {
+        first_by_columns(w, at, seed, s, g, slant, shift, rows, h, n, u, v);
+    }
+}
+
+// The same over any number of columns: the first group is set, and the others are added to it.
+pub fn set_ended(
+    w: &mut [u8],
+    at: usize,
+    seed: &[u8],
+    s: &[u8],
+    g: Grid,
+    slant: usize,
+    shift: usize,
+    rows: usize,
+    h: usize,
+    n: usize,
+    u: usize,
+    v: usize,
+)
+    requires { ⌜ (0 < length (now seed) → g .b ≤ length (now seed)) × (at + rows * g .b ≤ length (now w)) × (rows < g .m) × (shift < g .m) × (h < 129) × (h * g .column + g .column ≤ length (now s)) × Sized (g .m) (g .b) (g .column) × Crosses (g .m) (g .column) (length (now s)) slant 0 0 n ⌝ }
+    ensures { λ _. ⌜ Lined rows (g .b) at (now (w .entry)) (now (w .exit)) (λ r l. getD (now (seed .entry)) l 0 ⊕ ended (g .m) (blank u v (lane (g .m) (g .b) (now (s .entry)) l)) slant ((r + shift) % g .m) h n) ⌝ }
+{
+    let e = lines::group_but(0, n, u, v);
+    set_first(w, at, seed, s, g, slant, shift, rows, h, e, u, v);
+    fill::fill_but(w, at, s, g, slant, shift, rows, e, n, u, v);
 }

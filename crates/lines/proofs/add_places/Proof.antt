@@ -46,8 +46,8 @@ loop-holds c =
       listed-none _ _ _ _ (now (a .at)) _ (λ s l. span-none (a .g .m) (blank (a .u) (a .v) (lane (a .g .m) (a .g .b) s l)) (a .slant) (a .i) (a .t0)),
     )
 
-add-other-requires : tie.Need-add-other-requires Inv-loop μ-loop
-add-other-requires c κs =
+add-place-but-requires : tie.Need-add-place-but-requires Inv-loop μ-loop
+add-place-but-requires c κs =
     let z = c .before .before .before .before .before in
     let y = c .before .before .loop in
     (omega (arith, y .inv .3 .most, y .inv .3 .size, z .pre .0, c .before .loop-test .taken), omega (arith, z .pre .2 .most, c .before .loop-test .taken), z .pre .1)
@@ -79,7 +79,7 @@ loop-again c =
       omega arith,
       omega arith,
       c .row-above2 .ensures ∙ ap (λ (x : ℕ). back (a .g .m) x (a .slant)) (y .inv .2) ∙ row-next (a .g .m) (a .i) (a .slant) (y .t) (slant-next (a .slant) (a .t1) (a .g .m) (z .pre .2 .within) (y .t) h),
-      listed-same (listed-ends (omega (arith, e)) (listed-then (omega arith) (y .inv .3) (c .before .before .before .add-other .ensures))) (omega (arith, y .inv .0)) (λ s l.
+      listed-same (listed-ends (omega (arith, e)) (listed-then (omega arith) (y .inv .3) (c .before .before .before .add-place-but .ensures))) (omega (arith, y .inv .0)) (λ s l.
           ap (λ (x : ℕ). span (a .g .m) (n s l) (a .slant) (a .i) (a .t0) (y .t) ⊕ real (a .g .m) (n s l) x (y .t)) (y .inv .2) ∙ span-more (a .g .m) (n s l) (a .slant) (a .i) (a .t0) (y .t)),
     )
 
@@ -103,7 +103,7 @@ add-places-spec =
     mul-row-above
     row-above-requires
     loop-holds
-    add-other-requires
+    add-place-but-requires
     row-above-requires-2
     add-t
     loop-less

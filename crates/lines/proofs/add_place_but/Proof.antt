@@ -1,11 +1,11 @@
--- `lines::add_other` meets its contract: a column that is left out adds nothing.
+-- `lines::add_place_but` meets its contract: a column that is left out adds nothing.
 use mathlib.Core.Path.{refl, sym}
 use denote.Ref.{now}
 use Rattle.parity.specs.Stripe.{lane}
 use Rattle.lines.proofs.Places.{listed-none, listed-same, blank-real, blank-first, blank-second}
 use borrow.Author.Needs.{needs}
-use Rattle.lines.proofs.add_other.Statement.{statement}
-use Rattle.lines.proofs.add_other.Tie as tie
+use Rattle.lines.proofs.add_place_but.Statement.{statement}
+use Rattle.lines.proofs.add_place_but.Tie as tie
 
 returns : tie.Need-returns
 returns c =
@@ -28,5 +28,5 @@ returns-3 c =
     let a = c .before .before .before .before .before .before .before .args in
     listed-same (c .before .before .add-place .ensures) refl (λ s l. sym (blank-real (a .g .m) (a .u) (a .v) (lane (a .g .m) (a .g .b) s l) (a .r) (a .t) (c .before .before .before .before .before .if1 .left) (c .before .before .before .before .if2 .left)))
 
-pub add-other-spec : {M : Type 1} → statement M
-add-other-spec = tie.close (tie.spec returns returns-2 add-place-requires same-length returns-3)
+pub add-place-but-spec : {M : Type 1} → statement M
+add-place-but-spec = tie.close (tie.spec returns returns-2 add-place-requires same-length returns-3)
