@@ -3,8 +3,8 @@
 --   first-set, second-set    a half was set
 --   halves-added             something was added to both halves
 --   first-added              the first half was added to the second
---   TurnedIn, turned-more     to each of n rows i of the second half, row i - u of the first was added; one row more
---   turned-added             to all rows
+--   TurnedIn, turned-in      to each row i of the second half, row i - u of the first was added, in two runs
+--   turned-added             what stands there then
 --   one-restored, two-restored   what stands there is what was to be restored
 use mathlib.Core.Path.{_≡_, refl, sym, ap, ap₂, _∙_}
 use mathlib.Core.List.{List}
@@ -16,12 +16,13 @@ use Rattle.parity.specs.Shape.{columnLength}
 use Rattle.parity.specs.Equations.{back}
 use Rattle.parity.specs.Stripe.{byte, lane, Valid}
 use Rattle.cells.specs.Runs.{Put}
+use Rattle.cells.proofs.Parts.{by-order}
 use Rattle.cells.proofs.Puts.{put-same}
-use Rattle.lines.specs.Lines.{real}
-use Rattle.lines.proofs.Cells.{cell-at}
+use Rattle.lines.specs.Lines.{real, Sized}
 use Rattle.lines.proofs.Valid.{real-same}
+use Rattle.lines.proofs.Turned.{turned-runs, second-run}
 use Rattle.fill.specs.Fill.{Lined, BothAdded}
-use Rattle.fill.proofs.Rows.{Grown, grown-more, first-at, second-at, column-end, row-room}
+use Rattle.fill.proofs.Rows.{first-at, second-at, column-end, row-room}
 use Rattle.walk.specs.Walk.{Column, Parted}
 use Rattle.columns.specs.Columns.{SameBut, SameButTwo, OneRestored, TwoRestored}
 
@@ -67,17 +68,23 @@ module _ (m b : ℕ) where
 
   -- ---- rows of the first half, turned by u rows, added to the second
 
-  abbrev pub TurnedIn : ℕ → ℕ → ℕ → List ℕ → List ℕ → Type 0
-  TurnedIn n c u w v = Grown n b c w v (λ i l. real m (lane m b w l) (back m i u) 0)
+  abbrev pub TurnedIn : ℕ → ℕ → List ℕ → List ℕ → Type 0
+  TurnedIn c u w v = Lined (m - 1) b c w v (λ i l. getD w (c + (i * b + l)) 0 ⊕ real m (lane m b w l) (back m i u) 0)
+
+  pub turned-in : {c u : ℕ} → Sized m b c → u < m → {w x v : List ℕ}
+      → Put w x (c + u * b) ((m - 1 - u) * b) (λ l. getD w (c + u * b + l) 0 ⊕ getD w (0 + l) 0)
+      → Put x v c ((u - 1) * b) (λ l. getD x (c + l) 0 ⊕ getD x ((m - u) * b + l) 0) → TurnedIn c u w v
+  turned-in {c} {u} z h {w} {x} {v} p q =
+      turned-runs z c u 0 h w x v w
+      (put-same p (λ l k. ap (λ (y : ℕ). getD w (c + u * b + l) 0 ⊕ getD w y 0) (let e : 0 + l ≡ 0 * c + l = omega arith in e)))
+      (put-same q (λ l k. ap (λ (y : ℕ). getD x (c + l) 0 ⊕ y)
+      (p .before ((m - u) * b + l) (by-order ((m - u) * b + l < c + u * b) u 1
+      (λ low. absurd (let e : u - 1 ≡ 0 = omega arith in omega (arith, ap (λ (y : ℕ). y * b) e)))
+      (λ some. omega (arith, second-run z u some (omega arith))))
+      ∙ ap (λ (y : ℕ). getD w y 0) (let e : (m - u) * b + l ≡ 0 * c + (m - u) * b + l = omega arith in e))))
 
   module _ {c : ℕ} (column : c ≡ columnLength m b) (u : ℕ) where
-    pub turned-more : (i : ℕ) (w v x : List ℕ) → TurnedIn i c u w v
-        → Put v x (c + i * b) b (λ l. lane m b v l i 1 ⊕ real m (lane m b v l) (back m i u) 0) → TurnedIn (i + 1) c u w x
-    turned-more i w v x p q = grown-more i b c w v x (λ i l. real m (lane m b w l) (back m i u) 0) p (put-same q (λ l h.
-        ap₂ _⊕_ (cell-at m b i 1 (omega arith) v l) (real-same m (lane m b v l) (lane m b w l) (back m i u) (λ hr.
-        first-at m b v (back m i u) l ∙ p .before (0 + (back m i u * b + l)) (omega (arith, row-room m b (back m i u) l hr h)) ∙ sym (first-at m b w (back m i u) l)))))
-
-    pub turned-added : {w v : List ℕ} {f g : Column} → Parted m b w f g → TurnedIn (m - 1) c u w v → Parted m b v f (λ i l. g i l ⊕ real m (λ r t. f r l) (back m i u) 0)
+    pub turned-added : {w v : List ℕ} {f g : Column} → Parted m b w f g → TurnedIn c u w v → Parted m b v f (λ i l. g i l ⊕ real m (λ r t. f r l) (back m i u) 0)
     turned-added {w} {v} {f} {g} p q = record {
       size = q .size ∙ p .size;
       first = second-set column p q .first;

@@ -1,13 +1,14 @@
 -- What the loops ask for, and the numbers that they start from.
 --   half-room, one-row-room   the halves of a bench have room for their rows, and a cell for one
 --   first-line                row 0, shifted by i, is row i
---   one-row-set               a cell that was set as one row
+--   one-row-put               a cell that was set as one row
 use mathlib.Core.Path.{_≡_, ap, _∙_}
 use mathlib.Core.List.{List}
 use Prim.Native.Nat.{ℕ, _+_, _*_, _-_, _%_, _≤_, _<_}
 use native.Mathlib.Nat.{mod-eq-of-lt}
 use native.Mathlib.Omega.{arith}
 use lib.ListN.{getD}
+use Rattle.cells.specs.Runs.{Put}
 use Rattle.lines.specs.Lines.{Sized}
 use Rattle.lines.proofs.Lines.{column-is}
 use Rattle.fill.specs.Fill.{Lined}
@@ -21,5 +22,10 @@ one-row-room e = omega arith
 pub first-line : {m i : ℕ} → i < m → (0 + i) % m ≡ i
 first-line {m} {i} h = let e : 0 + i ≡ i = omega arith in ap (λ (x : ℕ). x % m) e ∙ mod-eq-of-lt h
 
-pub one-row-set : {b : ℕ} {x y : List ℕ} {f : ℕ → ℕ → ℕ} → Lined 1 b 0 x y f → (l : ℕ) → l < b → getD y l 0 ≡ f 0 l
-one-row-set {b} {y = y} p l h = let e : l ≡ 0 + (0 * b + l) = omega arith in ap (λ (x : ℕ). getD y x 0) e ∙ p .inside 0 l (omega arith) h
+pub one-row-put : {b : ℕ} {x y : List ℕ} {f : ℕ → ℕ → ℕ} → Lined 1 b 0 x y f → Put x y 0 b (f 0)
+one-row-put {b} {y = y} p = record {
+  size = p .size;
+  inside = λ l h. ap (λ (n : ℕ). getD y n 0) (let e : 0 + l ≡ 0 + (0 * b + l) = omega arith in e) ∙ p .inside 0 l (omega arith) h;
+  before = p .before;
+  after = λ n h. p .after n (omega arith);
+}

@@ -1,19 +1,22 @@
 -- What the functions on the way say to one another.
---   around m a e i x y n   line i of slant e over the first n columns but those from x up to y
+--   rowLeft m k b u v s i l        byte l of row i of s with H's cell, without columns u and v
+--   diagonalLeft m k b u v s i l   byte l of diagonal i of s with D's cell, without columns u and v
 --   Mixes …                w became v: its halves are columns u and u′ of any valid stripe that agrees with s, mixed
 use mathlib.Core.Path.{_≡_}
 use mathlib.Core.List.{List}
-use Prim.Native.Nat.{ℕ, _-_}
+use Prim.Native.Nat.{ℕ, _+_, _-_}
 use lib.ListN.{length}
-use Rattle.parity.specs.Xor.{_⊕_}
-use Rattle.parity.specs.Equations.{Lane}
 use Rattle.parity.specs.Stripe.{lane, Valid}
-use Rattle.lines.specs.Lines.{real, span}
+use Rattle.lines.specs.Lines.{real, ended}
+use Rattle.lines.specs.Places.{blank}
 use Rattle.walk.specs.Walk.{Mixed}
 use Rattle.columns.specs.Columns.{SameButTwo}
 
-unfoldable pub around : ℕ → Lane → ℕ → ℕ → ℕ → ℕ → ℕ → ℕ
-around m a e i x y n = span m a e i 0 x ⊕ span m a e i y n
+abbrev pub rowLeft : ℕ → ℕ → ℕ → ℕ → ℕ → List ℕ → ℕ → ℕ → ℕ
+rowLeft m k b u v s i l = ended m (blank u v (lane m b s l)) 0 i k k
+
+abbrev pub diagonalLeft : ℕ → ℕ → ℕ → ℕ → ℕ → List ℕ → ℕ → ℕ → ℕ
+diagonalLeft m k b u v s i l = ended m (blank u v (lane m b s l)) 1 i (k + 1) k
 
 pub record Mixes (m k b u u′ : ℕ) (s w v : List ℕ) : Type 0 where
   pub size : length v ≡ length w

@@ -1,5 +1,6 @@
-// Absent columns of a stripe s, one or two, restored to the halves of the bench w, a buffer of two columns. An absent column is never read.
-// A row line is zero over all data columns and H; a diagonal, with D's cell of its number, is S. Row m - 1 is imaginary, and zero.
+// Absent columns of a stripe s, one or two, restored to the halves of the bench w, a buffer of two columns. An absent column is never read:
+// every sum leaves out columns u and v, of which 129, which no stripe has, stands for none. A row with H's cell is zero, and a diagonal with
+// D's cell is S: what is left of them is what the absent columns have there. Row m - 1 is imaginary, and zero.
 use lines::Grid;
 ghost use mathlib.Core.Path.{_≡_};
 ghost use Prim.Native.Nat.{_+_, _-_, _*_, _%_, _≤_, _<_};
@@ -13,77 +14,53 @@ ghost use Rattle.lines.specs.Lines.{real, span, Sized, Crosses};
 ghost use Rattle.fill.specs.Fill.{Lined};
 ghost use Rattle.walk.specs.Walk.{Reaches};
 ghost use Rattle.columns.specs.Columns.{Ready, OneRestored, TwoRestored};
-ghost use Rattle.columns.specs.Sums.{around, Mixes};
+ghost use Rattle.columns.specs.Sums.{rowLeft, diagonalLeft, Mixes};
 
-// Where the first group of at most eight of x columns ends.
-fn first_end(x: usize) -> usize
-    ensures { λ e. ⌜ (e ≤ x) × (e ≤ 8) ⌝ }
+// The half of w at `at` becomes what is left of the rows when columns u and v are left out.
+fn set_rows(w: &mut [u8], at: usize, s: &[u8], g: Grid, k: usize, u: usize, v: usize)
+    requires { ⌜ (at ≤ g .column) × Ready (g .m) k (g .b) (g .column) (length (now s)) (length (now w)) ⌝ }
+    ensures { λ _. ⌜ Lined (g .m - 1) (g .b) at (now (w .entry)) (now (w .exit)) (λ r l. rowLeft (g .m) k (g .b) u v (now (s .entry)) r l) ⌝ }
 {
-    if x < 8 {
-        return x;
-    }
-    8
+    let rows = g.m - 1;
+    seeded::set_ended(w, at, &s[0..0], s, g, 0, 0, rows, k, k, u, v);
 }
 
-// The same over the first n columns but those from x up to y, in groups of at most eight columns.
-fn set_lines(
-    w: &mut [u8],
-    at: usize,
-    seed: &[u8],
-    s: &[u8],
-    g: Grid,
-    slant: usize,
-    shift: usize,
-    rows: usize,
-    x: usize,
-    y: usize,
-    n: usize,
-)
-    requires { ⌜ (0 < length (now seed) → g .b ≤ length (now seed)) × (at + rows * g .b ≤ length (now w)) × (rows < g .m) × (shift < g .m) × Sized (g .m) (g .b) (g .column) × (x ≤ y) × Crosses (g .m) (g .column) (length (now s)) slant 0 y n ⌝ }
-    ensures { λ _. ⌜ Lined rows (g .b) at (now (w .entry)) (now (w .exit)) (λ r l. getD (now (seed .entry)) l 0 ⊕ around (g .m) (lane (g .m) (g .b) (now (s .entry)) l) slant ((r + shift) % g .m) x y n) ⌝ }
+// x becomes what is left of diagonal d when columns u and v are left out.
+fn set_diagonal(x: &mut [u8], s: &[u8], g: Grid, k: usize, d: usize, u: usize, v: usize)
+    requires { ⌜ (length (now x) ≡ g .b) × (d < g .m) × Sized (g .m) (g .b) (g .column) × (k ≤ g .m) × (length (now s) ≡ (k + 2) * g .column) ⌝ }
+    ensures { λ _. ⌜ Put (now (x .entry)) (now (x .exit)) 0 (g .b) (λ l. diagonalLeft (g .m) k (g .b) u v (now (s .entry)) d l) ⌝ }
 {
-    let e = first_end(x);
-    seeded::set_rows(w, at, seed, s, g, slant, shift, rows, 0, e);
-    fill::fill_lines(w, at, s, g, slant, shift, rows, e, x);
-    fill::fill_lines(w, at, s, g, slant, shift, rows, y, n);
+    seeded::set_ended(x, 0, &s[0..0], s, g, 1, d, 1, k + 1, k, u, v);
 }
 
-// Of the `rows` cells from `at` on each cell r becomes the cell seed plus diagonal r + shift modulo m over the data columns but u, with D's cell.
+// The half of w at `at` becomes what is left of the diagonals when columns u and v are left out, each plus the cell x: row r has diagonal
+// r + shift modulo m.
 fn set_diagonals(
     w: &mut [u8],
     at: usize,
-    seed: &[u8],
+    x: &[u8],
     s: &[u8],
     g: Grid,
     k: usize,
     shift: usize,
-    rows: usize,
     u: usize,
+    v: usize,
 )
-    requires { ⌜ (0 < length (now seed) → g .b ≤ length (now seed)) × (at + rows * g .b ≤ length (now w)) × (rows < g .m) × (shift < g .m) × Sized (g .m) (g .b) (g .column) × (u < k) × (k ≤ g .m) × (length (now s) ≡ (k + 2) * g .column) ⌝ }
-    ensures { λ _. ⌜ Lined rows (g .b) at (now (w .entry)) (now (w .exit)) (λ r l. getD (now (seed .entry)) l 0 ⊕ around (g .m) (lane (g .m) (g .b) (now (s .entry)) l) 1 ((r + shift) % g .m) u (u + 1) k ⊕ span (g .m) (lane (g .m) (g .b) (now (s .entry)) l) 0 ((r + shift) % g .m) (k + 1) (k + 2)) ⌝ }
-{
-    set_lines(w, at, seed, s, g, 1, shift, rows, u, u + 1, k);
-    fill::fill_lines(w, at, s, g, 0, shift, rows, k + 1, k + 2);
-}
-
-// The first half of w becomes column u, a data column or H: each row over the other columns of these.
-fn put_by_rows(w: &mut [u8], s: &[u8], g: Grid, k: usize, u: usize)
-    requires { ⌜ Ready (g .m) k (g .b) (g .column) (length (now s)) (length (now w)) × (u ≤ k) ⌝ }
-    ensures { λ _. ⌜ Lined (g .m - 1) (g .b) 0 (now (w .entry)) (now (w .exit)) (λ r l. around (g .m) (lane (g .m) (g .b) (now (s .entry)) l) 0 r u (u + 1) (k + 1)) ⌝ }
+    requires { ⌜ (length (now x) ≡ g .b) × (at ≤ g .column) × (shift < g .m) × Ready (g .m) k (g .b) (g .column) (length (now s)) (length (now w)) ⌝ }
+    ensures { λ _. ⌜ Lined (g .m - 1) (g .b) at (now (w .entry)) (now (w .exit)) (λ r l. getD (now (x .entry)) l 0 ⊕ diagonalLeft (g .m) k (g .b) u v (now (s .entry)) ((r + shift) % g .m) l) ⌝ }
 {
     let rows = g.m - 1;
-    set_lines(w, 0, &s[0..0], s, g, 0, 0, rows, u, u + 1, k + 1);
+    seeded::set_ended(w, at, x, s, g, 1, shift, rows, k + 1, k, u, v);
 }
 
-// The half of w at `at` becomes column D: each diagonal over the data columns, and S. x is room for a cell, which becomes S.
-fn put_by_diagonals(w: &mut [u8], at: usize, x: &mut [u8], s: &[u8], g: Grid, k: usize)
+// The half of w at `at` becomes what is left of the diagonals, each plus what is left of diagonal m - 1. x is room for a cell.
+fn put_d(w: &mut [u8], at: usize, x: &mut [u8], s: &[u8], g: Grid, k: usize, u: usize, v: usize)
     requires { ⌜ (length (now x) ≡ g .b) × (at ≤ g .column) × Ready (g .m) k (g .b) (g .column) (length (now s)) (length (now w)) ⌝ }
-    ensures { λ _. ⌜ Lined (g .m - 1) (g .b) at (now (w .entry)) (now (w .exit)) (λ r l. span (g .m) (lane (g .m) (g .b) (now (s .entry)) l) 1 (g .m - 1) 0 k ⊕ span (g .m) (lane (g .m) (g .b) (now (s .entry)) l) 1 r 0 k) ⌝ }
+    ensures { λ _. ⌜ Lined (g .m - 1) (g .b) at (now (w .entry)) (now (w .exit)) (λ r l. diagonalLeft (g .m) k (g .b) u v (now (s .entry)) (g .m - 1) l ⊕ diagonalLeft (g .m) k (g .b) u v (now (s .entry)) r l) ⌝ }
 {
     let m = g.m;
-    set_lines(x, 0, &s[0..0], s, g, 1, m - 1, 1, k, k, k);
-    set_lines(w, at, x, s, g, 1, 0, m - 1, k, k, k);
+    set_diagonal(x, s, g, k, m - 1, u, v);
+    set_diagonals(w, at, x, s, g, k, 0, u, v);
 }
 
 // Column u is absent: the first half of w becomes column u of the valid stripe that agrees with s in all other columns, if there is one.
@@ -92,11 +69,11 @@ pub fn restore_one(s: &[u8], w: &mut [u8], g: Grid, k: usize, u: usize)
     ensures { λ _. ⌜ OneRestored (g .m) k (g .b) u (now (s .entry)) (now (w .entry)) (now (w .exit)) ⌝ }
 {
     if u <= k {
-        put_by_rows(w, s, g, k, u);
+        set_rows(w, 0, s, g, k, u, 129);
     } else {
         let b = g.b;
         let mut sum = [0u8; 4096];
-        put_by_diagonals(w, 0, &mut sum[0..b], s, g, k);
+        put_d(w, 0, &mut sum[0..b], s, g, k, u, 129);
     }
 }
 
@@ -123,10 +100,11 @@ fn mix(s: &[u8], w: &mut [u8], x: &mut [u8], g: Grid, k: usize, u: usize, v: usi
 {
     let rows = g.m - 1;
     let second = g.column;
+    let e = lines::group_but(0, k, u, v);
     total(x, s, g, k);
-    seeded::set_rows(w, 0, &s[0..0], s, g, 0, 0, rows, k, k + 1);
-    seeded::set_rows(w, second, x, s, g, 0, v, rows, k + 1, k + 2);
-    fill::fill_both(w, s, g, v, 0, k, u, v);
+    seeded::set_first(w, 0, &s[0..0], s, g, 0, 0, rows, k, e, u, v);
+    seeded::set_first(w, second, x, s, g, 1, v, rows, k + 1, e, u, v);
+    fill::fill_both(w, s, g, v, e, k, u, v);
 }
 
 // Data columns u and v.
@@ -145,20 +123,23 @@ fn data_and_h(s: &[u8], w: &mut [u8], x: &mut [u8], g: Grid, k: usize, u: usize)
 {
     let m = g.m;
     let second = g.column;
-    set_diagonals(x, 0, &s[0..0], s, g, k, (m - 1 + u) % m, 1, u);
-    set_diagonals(w, 0, x, s, g, k, u, m - 1, u);
-    set_lines(w, second, &s[0..0], s, g, 0, 0, m - 1, u, u + 1, k);
+    set_diagonal(x, s, g, k, (m - 1 + u) % m, u, k);
+    set_diagonals(w, 0, x, s, g, k, u, u, k);
+    set_rows(w, second, s, g, k, u, k);
     cells::add_within(w, second, 0, second);
 }
 
-// Adds row i - u modulo m of the first half to each row i of the second.
+// Adds row i - u modulo m of the first half to each row i of the second, in two runs.
 fn add_turned(w: &mut [u8], g: Grid, u: usize)
-    requires { ⌜ (length (now w) ≡ 2 * g .column) × Sized (g .m) (g .b) (g .column) × (u ≤ g .m) ⌝ }
+    requires { ⌜ (length (now w) ≡ 2 * g .column) × Sized (g .m) (g .b) (g .column) × (u < g .m) ⌝ }
     ensures { λ _. ⌜ Lined (g .m - 1) (g .b) (g .column) (now (w .entry)) (now (w .exit)) (λ r l. getD (now (w .entry)) (g .column + (r * g .b + l)) 0 ⊕ real (g .m) (lane (g .m) (g .b) (now (w .entry)) l) (back (g .m) r u) 0) ⌝ }
 {
     let m = g.m;
-    for i in 0..m - 1 {
-        walk::add_row(w, g, (i + (m - u)) % m, i);
+    let b = g.b;
+    let c = g.column;
+    cells::add_within(w, c + u * b, 0, (m - 1 - u) * b);
+    if 1 < u {
+        cells::add_within(w, c, (m - u) * b, (u - 1) * b);
     }
 }
 
@@ -169,10 +150,10 @@ fn data_and_d(s: &[u8], w: &mut [u8], x: &mut [u8], g: Grid, k: usize, u: usize)
 {
     let m = g.m;
     let second = g.column;
-    put_by_rows(w, s, g, k, u);
-    set_lines(x, 0, &s[0..0], s, g, 1, m - 1, 1, u, u + 1, k);
+    set_rows(w, 0, s, g, k, u, k + 1);
+    set_diagonal(x, s, g, k, m - 1, u, k + 1);
     lines::add_cell(x, w, g, 0, m - 1 - u, 0);
-    set_lines(w, second, x, s, g, 1, 0, m - 1, u, u + 1, k);
+    set_diagonals(w, second, x, s, g, k, 0, u, k + 1);
     add_turned(w, g, u);
 }
 
@@ -182,8 +163,8 @@ fn h_and_d(s: &[u8], w: &mut [u8], x: &mut [u8], g: Grid, k: usize)
     ensures { λ _. ⌜ TwoRestored (g .m) k (g .b) k (k + 1) (now (s .entry)) (now (w .entry)) (now (w .exit)) ⌝ }
 {
     let second = g.column;
-    put_by_rows(w, s, g, k, k);
-    put_by_diagonals(w, second, x, s, g, k);
+    set_rows(w, 0, s, g, k, k, k + 1);
+    put_d(w, second, x, s, g, k, k, k + 1);
 }
 
 // Columns u and v, by kind. x is room for a cell.

@@ -1,77 +1,109 @@
--- `columns::add_turned` meets its contract. The invariant: the rows before i of the second half are added to, and the first half is as it was.
-use mathlib.Core.Path.{_≡_, refl}
-use Prim.Native.Nat.{_-_, _≤_}
+-- `columns::add_turned` meets its contract: the two runs lie in the halves, and add the turned half. The second is none for u below 2.
+use mathlib.Core.Path.{_≡_, sym, ap, _∙_}
+use Prim.Native.Nat.{ℕ, _*_, _-_}
+use native.Mathlib.Nat.{zero-mul}
 use denote.Ref.{now}
-use Rattle.parity.specs.Equations.{back}
-use Rattle.fill.proofs.Rows.{lined-none, lined-count}
-use Rattle.columns.proofs.Bench.{TurnedIn, turned-more}
-use borrow.Author.Needs.{needs}
+use Rattle.cells.proofs.Puts.{put-none, put-count}
+use Rattle.lines.proofs.Turned.{first-run, second-run}
+use Rattle.columns.proofs.Bench.{turned-in}
 use native.Mathlib.Omega.{arith}
+use borrow.Author.Needs.{needs}
 use Rattle.columns.proofs.add_turned.Statement.{statement}
 use Rattle.columns.proofs.add_turned.Tie as tie
 
-abbrev Inv-loop : tie.InvT-loop
-Inv-loop w₀ g u m i₀ i-end w i = (i-end ≡ g .m - 1) × (i ≤ i-end) × TurnedIn (g .m) (g .b) i (g .column) u w₀ w
+mul-add-within : tie.Need-mul-add-within
+mul-add-within c =
+    let z = c .before .before in
+    let a = z .args in
+    omega (arith, first-run (z .pre .1) (a .u) (z .pre .2), z .pre .0)
 
-abbrev μ-loop : tie.MeasureT-loop
-μ-loop w₀ g u m i₀ i-end w i = i-end - i
+add-add-within : tie.Need-add-add-within
+add-add-within c =
+    let z = c .before .before in
+    let a = z .args in
+    omega (arith, first-run (z .pre .1) (a .u) (z .pre .2), z .pre .0)
 
-sub-i-end : tie.Need-sub-i-end Inv-loop μ-loop
-sub-i-end c = search needs
+sub-add-within : tie.Need-sub-add-within
+sub-add-within c = search needs
 
-loop-holds : tie.Need-loop-holds Inv-loop μ-loop
-loop-holds c =
-    (refl, omega arith, lined-none (c .before .args .g .b) (c .before .args .g .column) (now (c .before .args .w)) _)
+sub-add-within-2 : tie.Need-sub-add-within-2
+sub-add-within-2 c = search needs
 
-sub-add-row : tie.Need-sub-add-row Inv-loop μ-loop
-sub-add-row c = search needs
+mul-add-within-2 : tie.Need-mul-add-within-2
+mul-add-within-2 c =
+    let z = c .before .before in
+    let a = z .args in
+    omega (arith, first-run (z .pre .1) (a .u) (z .pre .2), z .pre .0)
 
-add-add-row : tie.Need-add-add-row Inv-loop μ-loop
-add-add-row c = search needs
+add-within-requires : tie.Need-add-within-requires
+add-within-requires c κs =
+    let z = c .before .before in
+    let a = z .args in
+    let run = first-run (z .pre .1) (a .u) (z .pre .2) in
+    (omega (arith, z .pre .0), omega (arith, z .pre .0), λ h. omega arith)
 
-rem-add-row : tie.Need-rem-add-row Inv-loop μ-loop
-rem-add-row c = search needs
+sub-add-within-3 : tie.Need-sub-add-within-3
+sub-add-within-3 c = search needs
 
-add-row-requires : tie.Need-add-row-requires Inv-loop μ-loop
-add-row-requires c κs =
-    let z = c .before .before .before .before in
-    (omega (arith, z .pre .0, c .before .before .loop .inv .2 .size), z .pre .1, omega arith)
-
-add-i : tie.Need-add-i Inv-loop μ-loop
-add-i c = search needs
-
-loop-less : tie.Need-loop-less Inv-loop μ-loop
-loop-less c = search needs
-
-loop-again : tie.Need-loop-again Inv-loop μ-loop
-unfolding back
-loop-again c =
+mul-add-within-3 : tie.Need-mul-add-within-3
+mul-add-within-3 c =
     let z = c .before .before .before .before .before .before .before in
     let a = z .args in
-    let y = c .before .before .before .before .before .loop in
-    let x = c .before .before .add-row in
-    (y .inv .0, omega arith, turned-more (a .g .m) (a .g .b) (z .pre .1 .column) (a .u) (y .i) (now (a .w)) (y .w) (x .last .0) (y .inv .2) (x .ensures))
+    omega (arith, second-run (z .pre .1) (a .u) (omega arith) (omega (arith, z .pre .2)), z .pre .0)
 
-same-length : tie.Need-same-length Inv-loop μ-loop
-same-length c = c .before .loop .inv .2 .size
+sub-add-within-4 : tie.Need-sub-add-within-4
+sub-add-within-4 c = search needs
 
-returns : tie.Need-returns Inv-loop μ-loop
-returns c = lined-count (c .before .loop .inv .2) (omega arith)
+mul-add-within-4 : tie.Need-mul-add-within-4
+mul-add-within-4 c =
+    let z = c .before .before .before .before .before .before .before in
+    let a = z .args in
+    omega (arith, second-run (z .pre .1) (a .u) (omega arith) (omega (arith, z .pre .2)), z .pre .0)
+
+add-within-requires-2 : tie.Need-add-within-requires-2
+add-within-requires-2 c κs =
+    let z = c .before .before .before .before .before .before .before in
+    let a = z .args in
+    let run = second-run (z .pre .1) (a .u) (omega arith) (omega (arith, z .pre .2)) in
+    let q = c .before .before .before .before .add-within .ensures .size in
+    (omega (arith, z .pre .0), omega (arith, z .pre .0), λ h. omega arith)
+
+same-length : tie.Need-same-length
+same-length c = search needs
+
+returns : tie.Need-returns
+returns c =
+    let z = c .before .before .before .before .before .before .before .before .before .before in
+    let a = z .args in
+    turned-in (a .g .m) (a .g .b) (z .pre .1) (z .pre .2) (c .before .before .before .before .before .before .before .add-within .ensures) (c .before .before .add-within2 .ensures)
+
+same-length-2 : tie.Need-same-length-2
+same-length-2 c = search needs
+
+returns-2 : tie.Need-returns-2
+returns-2 c =
+    let z = c .before .before .before .before .before .before in
+    let a = z .args in
+    let x = c .before .before .before .add-within in
+    let e : a .u - 1 ≡ 0 = omega arith in
+    turned-in (a .g .m) (a .g .b) (z .pre .1) (z .pre .2) (x .ensures) (put-count (put-none (x .last .0) (a .g .column) _) (sym (ap (λ (n : ℕ). n * a .g .b) e ∙ zero-mul (a .g .b))))
 
 pub add-turned-spec : {M : Type 1} → statement M
 add-turned-spec =
     tie.close
     (tie.spec
-    Inv-loop
-    μ-loop
-    sub-i-end
-    loop-holds
-    sub-add-row
-    add-add-row
-    rem-add-row
-    add-row-requires
-    add-i
-    loop-less
-    loop-again
+    mul-add-within
+    add-add-within
+    sub-add-within
+    sub-add-within-2
+    mul-add-within-2
+    add-within-requires
+    sub-add-within-3
+    mul-add-within-3
+    sub-add-within-4
+    mul-add-within-4
+    add-within-requires-2
     same-length
-    returns)
+    returns
+    same-length-2
+    returns-2)

@@ -5,11 +5,17 @@ use borrow.Author.Needs.{needs}
 use Rattle.columns.proofs.h_and_d.Statement.{statement}
 use Rattle.columns.proofs.h_and_d.Tie as tie
 
-put-by-rows-requires : tie.Need-put-by-rows-requires
-put-by-rows-requires c κs = search needs
+add-set-rows : tie.Need-add-set-rows
+add-set-rows c = search needs
 
-put-by-diagonals-requires : tie.Need-put-by-diagonals-requires
-put-by-diagonals-requires c κs = search needs
+set-rows-requires : tie.Need-set-rows-requires
+set-rows-requires c κs = search needs
+
+add-put-d : tie.Need-add-put-d
+add-put-d c = search needs
+
+put-d-requires : tie.Need-put-d-requires
+put-d-requires c κs = search needs
 
 same-length : tie.Need-same-length
 same-length c = search needs
@@ -21,9 +27,16 @@ returns : tie.Need-returns
 returns c =
     let z = c .before .before .before .before .before .before .before .before .before .before .before .before .before .before in
     let a = z .args in
-    h-d (a .g .m) (a .k) (a .g .b) (now (a .s)) (now (a .w)) (z .pre .1) (c .before .before .before .before .before .before .before .before .before .put-by-rows .ensures) (c .before .before .before .before .put-by-diagonals .ensures)
+    h-d (a .g .m) (a .k) (a .g .b) (now (a .s)) (now (a .w)) (z .pre .1) (c .before .before .before .before .before .before .before .before .before .set-rows .ensures) (c .before .before .before .before .put-d .ensures)
 
 pub h-and-d-spec : {M : Type 1} → statement M
 h-and-d-spec =
     tie.close
-    (tie.spec put-by-rows-requires put-by-diagonals-requires same-length same-length-2 returns)
+    (tie.spec
+    add-set-rows
+    set-rows-requires
+    add-put-d
+    put-d-requires
+    same-length
+    same-length-2
+    returns)

@@ -1,43 +1,45 @@
--- `columns::set_diagonals` meets its contract: the diagonals, and then D's cells added to them.
-use Prim.Native.Nat.{_+_}
+-- `columns::set_diagonals` meets its contract: the diagonals are set from the cell x.
 use denote.Ref.{now}
-use Rattle.fill.proofs.Rows.{lined-grown}
-use Rattle.fill.proofs.Sweeps.{lineAt}
+use Rattle.lines.proofs.Whole.{diagonal-crosses}
+use Rattle.columns.proofs.Rooms.{half-room}
+use native.Mathlib.Omega.{arith}
 use borrow.Author.Needs.{needs}
 use Rattle.columns.proofs.set_diagonals.Statement.{statement}
 use Rattle.columns.proofs.set_diagonals.Tie as tie
 
-add-set-lines : tie.Need-add-set-lines
-add-set-lines c = search needs
+sub-rows : tie.Need-sub-rows
+sub-rows c = search needs
 
-set-lines-requires : tie.Need-set-lines-requires
-set-lines-requires c κs = search needs
+add-set-ended : tie.Need-add-set-ended
+add-set-ended c = search needs
 
-add-fill-lines : tie.Need-add-fill-lines
-add-fill-lines c = search needs
-
-add-fill-lines-2 : tie.Need-add-fill-lines-2
-add-fill-lines-2 c = search needs
-
-fill-lines-requires : tie.Need-fill-lines-requires
-fill-lines-requires c κs = search needs
+set-ended-requires : tie.Need-set-ended-requires
+set-ended-requires c κs =
+    let z = c .before .before .before .before .before in
+    let a = z .args in
+    let y = z .pre .3 in (
+      λ h. omega (arith, z .pre .0),
+      omega (arith, z .pre .1, half-room (y .sized) (y .bench) .1),
+      omega (arith, y .sized .big),
+      z .pre .2,
+      omega (arith, y .few, y .sized .few),
+      omega (arith, y .stripe),
+      y .sized,
+      diagonal-crosses (y .sized) (y .few) (y .stripe) (omega (arith, y .sized .big)) (omega arith) (omega arith),
+    )
 
 same-length : tie.Need-same-length
 same-length c = search needs
 
 returns : tie.Need-returns
-returns c =
-    let a = c .before .before .before .before .before .before .before .before .before .before .before .args in
-    lined-grown (a .rows) (a .g .b) (a .at) (lineAt (a .g .m) (a .g .b) (now (a .s)) 0 (a .shift) (a .k + 1) (a .k + 2)) (c .before .before .before .before .before .before .set-lines .ensures) (c .before .before .fill-lines .ensures)
+returns c = search needs
 
 pub set-diagonals-spec : {M : Type 1} → statement M
 set-diagonals-spec =
     tie.close
     (tie.spec
-    add-set-lines
-    set-lines-requires
-    add-fill-lines
-    add-fill-lines-2
-    fill-lines-requires
+    sub-rows
+    add-set-ended
+    set-ended-requires
     same-length
     returns)
