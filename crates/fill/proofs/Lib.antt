@@ -1,3 +1,4 @@
+pub mod Whole
 pub mod Rows
 pub mod Seeds
 pub mod Sweeps

@@ -226,15 +226,17 @@ fn add_groups(
     i: usize,
     t0: usize,
     t1: usize,
+    u: usize,
+    v: usize,
     at: usize,
 )
     requires { ⌜ (at + g .b ≤ length (now w)) × Sized (g .m) (g .b) (g .column) × Crosses (g .m) (g .column) (length (now s)) slant i t0 t1 ⌝ }
-    ensures { λ _. ⌜ Put (now (w .entry)) (now (w .exit)) at (g .b) (λ l. getD (now (w .entry)) (at + l) 0 ⊕ span (g .m) (blank 129 129 (lane (g .m) (g .b) (now (s .entry)) l)) slant i t0 t1) ⌝ }
+    ensures { λ _. ⌜ Put (now (w .entry)) (now (w .exit)) at (g .b) (λ l. getD (now (w .entry)) (at + l) 0 ⊕ span (g .m) (blank u v (lane (g .m) (g .b) (now (s .entry)) l)) slant i t0 t1) ⌝ }
 {
     let mut t = t0;
     while t < t1 {
-        let e = lines::group_but(t, t1, 129, 129);
-        add_line(w, s, g, slant, i, t, e, 129, 129, at);
+        let e = lines::group_but(t, t1, u, v);
+        add_line(w, s, g, slant, i, t, e, u, v, at);
         t = e;
     }
 }
@@ -258,7 +260,7 @@ pub fn fill_cell(
 {
     let e = lines::group_but(t0, t1, 129, 129);
     fill_group(w, seed, fresh, s, g, slant, i, t0, e, 129, 129, at);
-    add_groups(w, s, g, slant, i, e, t1, at);
+    add_groups(w, s, g, slant, i, e, t1, 129, 129, at);
 }
 
 // The row below row r, modulo m.
@@ -374,34 +376,64 @@ fn by_columns(g: Grid, rows: usize) -> bool
     false
 }
 
-// Of the `rows` cells from `at` on each cell r gets line r + shift modulo m, over the columns from t0 up to t1, at most ten, but u and v,
-// added.
-fn fill_rows(
+// The m - 1 cells from `at` on: each cell r gets row r added, over the columns from t0 up to t1 but u and v: all at once, as one long cell, for
+// whole columns stand row by row as their sum does.
+fn add_whole(w: &mut [u8], at: usize, s: &[u8], g: Grid, t0: usize, t1: usize, u: usize, v: usize)
+    requires { ⌜ (at + g .column ≤ length (now w)) × (g .column ≤ 4096) × Sized (g .m) (g .b) (g .column) × Crosses (g .m) (g .column) (length (now s)) 0 0 t0 t1 ⌝ }
+    ensures { λ _. ⌜ Lined (g .m - 1) (g .b) at (now (w .entry)) (now (w .exit)) (λ r l. getD (now (w .entry)) (at + (r * g .b + l)) 0 ⊕ span (g .m) (blank u v (lane (g .m) (g .b) (now (s .entry)) l)) 0 r t0 t1) ⌝ }
+{
+    let c = g.column;
+    let row = Grid {
+        m: 2,
+        b: c,
+        column: c,
+    };
+    add_groups(w, s, row, 0, 0, t0, t1, u, v, at);
+}
+
+// Whether the lines of a grid are rows, and its columns neither too short nor too long to be taken for one cell each.
+fn is_whole(g: Grid, slant: usize, shift: usize) -> bool
+    ensures { λ r. ⌜ (r ≡ true → (slant ≡ 0) × (shift ≡ 0) × (g .column ≤ 4096)) ⌝ }
+{
+    if slant != 0 {
+        return false;
+    }
+    if shift != 0 {
+        return false;
+    }
+    if g.column < 64 {
+        return false;
+    }
+    g.column <= 4096
+}
+
+// The m - 1 cells from `at` on: each cell r gets line r + shift modulo m, over the columns from t0 up to t1 but u and v, added: whole columns
+// at a time.
+fn add_columns(
     w: &mut [u8],
     at: usize,
     s: &[u8],
     g: Grid,
     slant: usize,
     shift: usize,
-    rows: usize,
     t0: usize,
     t1: usize,
     u: usize,
     v: usize,
 )
-    requires { ⌜ (at + rows * g .b ≤ length (now w)) × (rows < g .m) × (shift < g .m) × (t1 ≤ t0 + 10) × Sized (g .m) (g .b) (g .column) × Crosses (g .m) (g .column) (length (now s)) slant 0 t0 t1 ⌝ }
-    ensures { λ _. ⌜ Lined rows (g .b) at (now (w .entry)) (now (w .exit)) (λ r l. getD (now (w .entry)) (at + (r * g .b + l)) 0 ⊕ span (g .m) (blank u v (lane (g .m) (g .b) (now (s .entry)) l)) slant ((r + shift) % g .m) t0 t1) ⌝ }
+    requires { ⌜ (at + g .column ≤ length (now w)) × (shift < g .m) × Sized (g .m) (g .b) (g .column) × Crosses (g .m) (g .column) (length (now s)) slant 0 t0 t1 ⌝ }
+    ensures { λ _. ⌜ Lined (g .m - 1) (g .b) at (now (w .entry)) (now (w .exit)) (λ r l. getD (now (w .entry)) (at + (r * g .b + l)) 0 ⊕ span (g .m) (blank u v (lane (g .m) (g .b) (now (s .entry)) l)) slant ((r + shift) % g .m) t0 t1) ⌝ }
 {
-    if by_columns(g, rows) {
-        add_by_columns(w, at, s, g, slant, shift, t0, t1, u, v);
+    if is_whole(g, slant, shift) {
+        add_whole(w, at, s, g, t0, t1, u, v);
     } else {
-        add_by_cells(w, at, s, g, slant, shift, rows, t0, t1, u, v);
+        add_by_columns(w, at, s, g, slant, shift, t0, t1, u, v);
     }
 }
 
-// Of the `rows` cells from `at` on each cell r gets line r + shift modulo m, over the columns from t0 up to t1 but u and v, added: in
-// groups of eight columns, so that few streams are read at once.
-pub fn fill_but(
+// Of the `rows` cells from `at` on each cell r gets line r + shift modulo m, over the columns from t0 up to t1 but u and v, added: cell by cell,
+// in groups of eight columns, so that few streams are read at once.
+fn add_by_groups(
     w: &mut [u8],
     at: usize,
     s: &[u8],
@@ -420,8 +452,32 @@ pub fn fill_but(
     let mut t = t0;
     while t < t1 {
         let e = lines::group_but(t, t1, u, v);
-        fill_rows(w, at, s, g, slant, shift, rows, t, e, u, v);
+        add_by_cells(w, at, s, g, slant, shift, rows, t, e, u, v);
         t = e;
+    }
+}
+
+// The same, in the way that suits the cells.
+pub fn fill_but(
+    w: &mut [u8],
+    at: usize,
+    s: &[u8],
+    g: Grid,
+    slant: usize,
+    shift: usize,
+    rows: usize,
+    t0: usize,
+    t1: usize,
+    u: usize,
+    v: usize,
+)
+    requires { ⌜ (at + rows * g .b ≤ length (now w)) × (rows < g .m) × (shift < g .m) × Sized (g .m) (g .b) (g .column) × Crosses (g .m) (g .column) (length (now s)) slant 0 t0 t1 ⌝ }
+    ensures { λ _. ⌜ Lined rows (g .b) at (now (w .entry)) (now (w .exit)) (λ r l. getD (now (w .entry)) (at + (r * g .b + l)) 0 ⊕ span (g .m) (blank u v (lane (g .m) (g .b) (now (s .entry)) l)) slant ((r + shift) % g .m) t0 t1) ⌝ }
+{
+    if by_columns(g, rows) {
+        add_columns(w, at, s, g, slant, shift, t0, t1, u, v);
+    } else {
+        add_by_groups(w, at, s, g, slant, shift, rows, t0, t1, u, v);
     }
 }
 
@@ -444,18 +500,18 @@ pub fn fill_lines(
 }
 
 // Each row r of the first of two columns gets row r added, and each row r of the second diagonal r + shift modulo m, both over the columns
-// from t0 up to t1, at most ten, but u and v.
+// from t0 up to t1 but u and v.
 fn fill_two(w: &mut [u8], s: &[u8], g: Grid, shift: usize, t0: usize, t1: usize, u: usize, v: usize)
-    requires { ⌜ (length (now w) ≡ 2 * g .column) × (shift < g .m) × (t1 ≤ t0 + 10) × Sized (g .m) (g .b) (g .column) × Crosses (g .m) (g .column) (length (now s)) 1 0 t0 t1 ⌝ }
+    requires { ⌜ (length (now w) ≡ 2 * g .column) × (shift < g .m) × Sized (g .m) (g .b) (g .column) × Crosses (g .m) (g .column) (length (now s)) 1 0 t0 t1 ⌝ }
     ensures { λ _. ⌜ BothAdded (g .m) (g .b) (now (w .entry)) (now (w .exit)) (λ r l. span (g .m) (blank u v (lane (g .m) (g .b) (now (s .entry)) l)) 0 r t0 t1) (λ r l. span (g .m) (blank u v (lane (g .m) (g .b) (now (s .entry)) l)) 1 ((r + shift) % g .m) t0 t1) ⌝ }
 {
     let rows = g.m - 1;
     let second = g.column;
-    fill_rows(w, 0, s, g, 0, 0, rows, t0, t1, u, v);
-    fill_rows(w, second, s, g, 1, shift, rows, t0, t1, u, v);
+    fill_but(w, 0, s, g, 0, 0, rows, t0, t1, u, v);
+    fill_but(w, second, s, g, 1, shift, rows, t0, t1, u, v);
 }
 
-// The same over any number of columns, in groups of eight.
+// The same in groups of eight columns.
 pub fn fill_both(
     w: &mut [u8],
     s: &[u8],

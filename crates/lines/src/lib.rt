@@ -195,11 +195,15 @@ fn stretch(t: usize, e: usize, u: usize) -> usize
     e
 }
 
-// Where a group of at most eight columns other than u and v, the first of them from t on, ends.
+// Where a group of at most eight columns other than u and v, the first of them from t on, ends. Where at most ten columns are left, they are
+// one group.
 pub fn group_but(t: usize, t1: usize, u: usize, v: usize) -> usize
     requires { ⌜ (t ≤ t1) × (t1 ≤ 129) ⌝ }
     ensures { λ e. ⌜ (t ≤ e) × (e ≤ t1) × (e ≤ t + 10) × (t < t1 → t < e) ⌝ }
 {
+    if t1 <= t + 10 {
+        return t1;
+    }
     let x = stretch(t, t + 8, u);
     let e = stretch(t, x, v);
     if e < t1 {

@@ -17,14 +17,10 @@ pub fn restore_gaps(gaps: Gaps, g: Grid, k: usize, stripe: &[u8], bench: &mut [u
         columns::restore_two(stripe, bench, g, k, first, gaps.second);
         return true;
     }
-    if !fits::fits_but(stripe, g, k, first) {
-        return false;
+    if count == 1 {
+        return single::restore(stripe, bench, g, k, first);
     }
-    if count == 0 {
-        return true;
-    }
-    columns::restore_one(stripe, bench, g, k, first);
-    true
+    fits::fits_but(stripe, g, k, first)
 }
 
 // Locates the wrong column, and rewrites it. The answer is that column; nothing, of a stripe that is sound; or nobody.

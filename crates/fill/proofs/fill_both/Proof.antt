@@ -27,7 +27,7 @@ fill-two-requires : tie.Need-fill-two-requires Inv-loop μ-loop
 fill-two-requires c κs =
     let z = c .before .before .before .before .before .before in
     let e = c .before .group-but in
-    (omega (arith, z .pre .0, c .before .before .before .loop .inv .2 .size), z .pre .1, e .ensures .2, z .pre .2, crosses-columns (c .before .before .before .loop .t) (e .result) (e .ensures .0) (e .ensures .1) (z .pre .3))
+    (omega (arith, z .pre .0, c .before .before .before .loop .inv .2 .size), z .pre .1, z .pre .2, crosses-columns (c .before .before .before .loop .t) (e .result) (e .ensures .0) (e .ensures .1) (z .pre .3))
 
 loop-less : tie.Need-loop-less Inv-loop μ-loop
 loop-less c = omega (arith, c .before .before .before .before .group-but .ensures .3 (c .before .before .before .before .before .loop-test .taken), c .before .before .before .before .group-but .ensures .1)

@@ -1,69 +1,51 @@
--- `fill::fill_but` meets its contract. The invariant: the columns from t0 up to t are added.
-use mathlib.Core.Path.{_≡_, subst}
-use Prim.Native.Nat.{ℕ, _-_, _≤_}
-use denote.Ref.{now}
-use Rattle.lines.proofs.Lines.{crosses-columns}
-use Rattle.fill.proofs.Sweeps.{Swept, swept-none, swept-join}
-use borrow.Author.Needs.{needs}
+-- `fill::fill_but` meets its contract: whichever way is taken.
+use mathlib.Core.Path.{_≡_, sym, ap, _∙_}
+use Prim.Native.Nat.{ℕ, _*_}
+use Rattle.lines.proofs.Lines.{column-is}
+use Rattle.lines.proofs.Rows.{lined-count}
 use native.Mathlib.Omega.{arith}
+use borrow.Author.Needs.{needs}
 use Rattle.fill.proofs.fill_but.Statement.{statement}
 use Rattle.fill.proofs.fill_but.Tie as tie
 
-abbrev Inv-loop : tie.InvT-loop
-Inv-loop w₀ at s g slant shift rows t0 t1 u v t₀ w t = (t0 ≤ t) × (t ≤ t1) × Swept (g .m) (g .b) u v s rows at slant shift w₀ w t0 t
+by-columns-requires : tie.Need-by-columns-requires
+by-columns-requires c κs =
+    c .before .before .pre .3
 
-abbrev μ-loop : tie.MeasureT-loop
-μ-loop w₀ at s g slant shift rows t0 t1 u v t₀ w t = t1 - t
-
-loop-holds : tie.Need-loop-holds Inv-loop μ-loop
-loop-holds c =
-    let a = c .before .before .args in
-    (omega arith, c .before .before .pre .4 .order, swept-none (a .g .m) (a .g .b) (a .u) (a .v) (now (a .s)) (a .rows) (a .at) (a .slant) (a .shift) (now (a .w)) (a .t0))
-
-group-but-requires : tie.Need-group-but-requires Inv-loop μ-loop
-group-but-requires c κs = search needs
-
-fill-rows-requires : tie.Need-fill-rows-requires Inv-loop μ-loop
-fill-rows-requires c κs =
-    let z = c .before .before .before .before .before .before in
-    let e = c .before .group-but in
-    (omega (arith, z .pre .0, c .before .before .before .loop .inv .2 .size), z .pre .1, z .pre .2, e .ensures .2, z .pre .3, crosses-columns (c .before .before .before .loop .t) (e .result) (e .ensures .0) (e .ensures .1) (z .pre .4))
-
-loop-less : tie.Need-loop-less Inv-loop μ-loop
-loop-less c = omega (arith, c .before .before .before .before .group-but .ensures .3 (c .before .before .before .before .before .loop-test .taken), c .before .before .before .before .group-but .ensures .1)
-
-loop-again : tie.Need-loop-again Inv-loop μ-loop
-loop-again c =
-    let a = c .before .before .before .before .before .before .before .before .before .args in
-    let y = c .before .before .before .before .before .before .loop in
-    let e = c .before .before .before .before .group-but in
-    let z = c .before .before .fill-rows in (
-      omega (arith, e .ensures .0, y .inv .0),
-      e .ensures .1,
-      swept-join (a .g .m) (a .g .b) (a .u) (a .v) (now (a .s)) (a .rows) (a .at) (a .slant) (a .shift) (now (a .w)) (y .w) (z .last .0) (a .t0) (y .t) (e .result) (y .inv .2) (z .ensures),
-    )
-
-same-length : tie.Need-same-length Inv-loop μ-loop
-same-length c = c .before .loop .inv .2 .size
-
-returns : tie.Need-returns Inv-loop μ-loop
-returns c =
-    let z = c .before .before .before .before in
+add-columns-requires : tie.Need-add-columns-requires
+add-columns-requires c κs =
+    let z = c .before .before .before .before .before in
     let a = z .args in
-    let y = c .before .loop in
-    let e : y .t ≡ a .t1 = omega (arith, y .inv .1, c .loop-test .left) in
-    subst (λ (x : ℕ). Swept (a .g .m) (a .g .b) (a .u) (a .v) (now (a .s)) (a .rows) (a .at) (a .slant) (a .shift) (now (a .w)) (y .w) (a .t0) x) e (y .inv .2)
+    let e = c .before .before .by-columns .ensures (c .before .if1 .taken) in
+    let f : a .rows * a .g .b ≡ a .g .column = ap (λ (x : ℕ). x * a .g .b) e ∙ sym (column-is (a .g .m) (a .g .b) (a .g .column) (z .pre .3)) in
+    (omega (arith, z .pre .0), z .pre .2, z .pre .3, z .pre .4)
+
+add-by-groups-requires : tie.Need-add-by-groups-requires
+add-by-groups-requires c κs =
+    c .before .before .before .before .before .pre
+
+same-length : tie.Need-same-length
+same-length c = search needs
+
+returns : tie.Need-returns
+returns c =
+    lined-count (c .before .before .add-columns .ensures) (sym (c .before .before .before .before .before .by-columns .ensures (c .before .before .before .before .if1 .taken)))
+
+same-length-2 : tie.Need-same-length-2
+same-length-2 c = search needs
+
+returns-2 : tie.Need-returns-2
+returns-2 c =
+    c .before .before .add-by-groups .ensures
 
 pub fill-but-spec : {M : Type 1} → statement M
 fill-but-spec =
     tie.close
     (tie.spec
-    Inv-loop
-    μ-loop
-    loop-holds
-    group-but-requires
-    fill-rows-requires
-    loop-less
-    loop-again
+    by-columns-requires
+    add-columns-requires
+    add-by-groups-requires
     same-length
-    returns)
+    returns
+    same-length-2
+    returns-2)

@@ -11,17 +11,17 @@ use Rattle.fill.proofs.fill_two.Tie as tie
 sub-rows : tie.Need-sub-rows
 sub-rows c = search needs
 
-fill-rows-requires : tie.Need-fill-rows-requires
-fill-rows-requires c κs =
+fill-but-requires : tie.Need-fill-but-requires
+fill-but-requires c κs =
     let z = c .before .before .before .before in
-    let e = column-is (z .args .g .m) (z .args .g .b) (z .args .g .column) (z .pre .3) in
-    (omega (arith, z .pre .0), omega (arith, z .pre .3 .big), omega (arith, z .pre .3 .big), z .pre .2, z .pre .3, crosses-line 0 0 (omega arith) (omega (arith, z .pre .3 .big)) (z .pre .4))
+    let e = column-is (z .args .g .m) (z .args .g .b) (z .args .g .column) (z .pre .2) in
+    (omega (arith, z .pre .0), omega (arith, z .pre .2 .big), omega (arith, z .pre .2 .big), z .pre .2, crosses-line 0 0 (omega arith) (omega (arith, z .pre .2 .big)) (z .pre .3))
 
-fill-rows-requires-2 : tie.Need-fill-rows-requires-2
-fill-rows-requires-2 c κs =
+fill-but-requires-2 : tie.Need-fill-but-requires-2
+fill-but-requires-2 c κs =
     let z = c .before .before .before .before .before .before .before .before in
-    let e = column-is (z .args .g .m) (z .args .g .b) (z .args .g .column) (z .pre .3) in
-    (omega (arith, z .pre .0, c .before .before .before .fill-rows .ensures .size), omega (arith, z .pre .3 .big), z .pre .1, z .pre .2, z .pre .3, z .pre .4)
+    let e = column-is (z .args .g .m) (z .args .g .b) (z .args .g .column) (z .pre .2) in
+    (omega (arith, z .pre .0, c .before .before .before .fill-but .ensures .size), omega (arith, z .pre .2 .big), z .pre .1, z .pre .2, z .pre .3)
 
 same-length : tie.Need-same-length
 same-length c = search needs
@@ -30,8 +30,8 @@ returns : tie.Need-returns
 returns c =
     let z = c .before .before .before .before .before .before .before .before .before .before .before in
     let a = z .args in
-    both-swept (a .g .m) (a .g .b) (a .u) (a .v) (now (a .s)) (a .g .column) (a .shift) (now (a .w)) (c .before .before .before .before .before .before .fill-rows .last .0) (c .before .before .fill-rows2 .last .0) (a .t0) (a .t1) (z .pre .3 .column) (c .before .before .before .before .before .before .fill-rows .ensures) (c .before .before .fill-rows2 .ensures)
+    both-swept (a .g .m) (a .g .b) (a .u) (a .v) (now (a .s)) (a .g .column) (a .shift) (now (a .w)) (c .before .before .before .before .before .before .fill-but .last .0) (c .before .before .fill-but2 .last .0) (a .t0) (a .t1) (z .pre .2 .column) (c .before .before .before .before .before .before .fill-but .ensures) (c .before .before .fill-but2 .ensures)
 
 pub fill-two-spec : {M : Type 1} → statement M
 fill-two-spec =
-    tie.close (tie.spec sub-rows fill-rows-requires fill-rows-requires-2 same-length returns)
+    tie.close (tie.spec sub-rows fill-but-requires fill-but-requires-2 same-length returns)
