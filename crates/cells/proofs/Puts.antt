@@ -5,6 +5,7 @@
 --   put-next            a second run after the first, which may overlap it
 --   put-same, put-count the same bytes by another name, and so many by another name
 --   put-part, put-added a lent part that came back with other bytes, or with something added
+--   put-cleared         a lent part that came back cleared
 --   put-copied          a lent part that came back as a run which was set before
 --   put-taken           a lent part that came back as a part of another list
 --   put-lent            one byte more, which was lent
@@ -150,3 +151,10 @@ put-again g p q = record {
   before = λ v h. q .before v h ∙ p .before v h;
   after = λ v h. q .after v h ∙ p .after v h;
 }
+
+-- bytes that were lent and cleared
+pub put-cleared : (w y : List ℕ) (at e : ℕ) → at ≤ e → e ≤ length w → Put (part w at e) y 0 (length (part w at e)) (λ l. 0) → Put w (putMid at (e - at) w y) at (e - at) (λ l. 0)
+put-cleared w y at e order room p = put-part w y at (e - at) (λ l. 0) (omega arith) (p .size ∙ size) (λ l h. put-start p l (rw size h))
+  where
+    size : length (part w at e) ≡ e - at
+    size = length-take-le (e - at) _ (simp length-drop (omega arith))

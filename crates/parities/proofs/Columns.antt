@@ -2,7 +2,6 @@
 --   last-cell                   where the last cell of a column stands
 --   low-run, high-run           the two runs of a turned column
 --   turned                      the two runs add it
---   cleared                     bytes that were lent and cleared
 --   column-grown                a column added to H, and to D turned
 --   grown-begin                 no column added
 --   spread-next                 one more cell of D with the last one added
@@ -13,17 +12,15 @@ use mathlib.Core.List.{List}
 use Prim.Native.Nat.{ℕ, _+_, _-_, _*_, _≤_, _<_}
 use native.Mathlib.Nat.{one-mul}
 use native.Mathlib.Omega.{arith}
-use lib.ListN.{length, getD, length-drop}
-use lib.Seq.{length-take-le}
-use borrow.Rule.Slice.PartMut.{putMid}
+use lib.ListN.{getD}
 use Rattle.parity.specs.Xor.{_⊕_}
 use Rattle.parity.specs.Shape.{columnLength}
 use Rattle.parity.specs.Equations.{Lane, back}
 use Rattle.parity.specs.Stripe.{byte, lane}
 use Rattle.parity.proofs.Xor.{zero-⊕}
 use Rattle.cells.specs.Runs.{Put}
-use Rattle.cells.proofs.Parts.{part, parts-end, by-order}
-use Rattle.cells.proofs.Puts.{put-same, put-part, put-start}
+use Rattle.cells.proofs.Parts.{parts-end, by-order}
+use Rattle.cells.proofs.Puts.{put-same}
 use Rattle.lines.specs.Lines.{real, span, Sized}
 use Rattle.lines.specs.Rows.{Lined}
 use Rattle.lines.proofs.Lines.{real-in, span-none, span-more, column-is, cell-room}
@@ -60,13 +57,6 @@ module _ {m b c : ℕ} (z : Sized m b c) where
         ap (λ (x : ℕ). getD u (d + l) 0 ⊕ x) (p .before (t * c + (m - t) * b + l) (by-order (t * c + (m - t) * b + l < d + t * b) t 1
         (λ low. absurd (let e : t - 1 ≡ 0 = omega arith in omega (arith, ap (λ (x : ℕ). x * b) e)))
         (λ some. omega (arith, high-run some))))))
-
--- bytes that were lent and cleared
-pub cleared : (w y : List ℕ) (at e : ℕ) → at ≤ e → e ≤ length w → Put (part w at e) y 0 (length (part w at e)) (λ l. 0) → Put w (putMid at (e - at) w y) at (e - at) (λ l. 0)
-cleared w y at e order room p = put-part w y at (e - at) (λ l. 0) (omega arith) (p .size ∙ size) (λ l h. put-start p l (rw size h))
-  where
-    size : length (part w at e) ≡ e - at
-    size = length-take-le (e - at) _ (simp length-drop (omega arith))
 
 -- ---- columns added
 

@@ -43,14 +43,27 @@ fn set_by_cells(
     }
 }
 
-// Each of the `rows` cells of b bytes from `at` on becomes the cell seed, of which an empty one is zero.
-pub fn seed_rows(w: &mut [u8], at: usize, seed: &[u8], rows: usize, b: usize)
+// Each of the `rows` cells of b bytes from `at` on becomes the cell seed, of which an empty one is zero: cell by cell.
+fn seed_each(w: &mut [u8], at: usize, seed: &[u8], rows: usize, b: usize)
     requires { ⌜ (0 < length (now seed) → b ≤ length (now seed)) × (at + rows * b ≤ length (now w)) ⌝ }
     ensures { λ _. ⌜ Lined rows b at (now (w .entry)) (now (w .exit)) (λ r l. getD (now (seed .entry)) l 0) ⌝ }
 {
     for r in 0..rows {
         let from = at + r * b;
         lines::start(&mut w[from..from + b], seed, 0);
+    }
+}
+
+// The same. From no seed, all cells are cleared at once.
+pub fn seed_rows(w: &mut [u8], at: usize, seed: &[u8], rows: usize, b: usize)
+    requires { ⌜ (0 < length (now seed) → b ≤ length (now seed)) × (at + rows * b ≤ length (now w)) ⌝ }
+    ensures { λ _. ⌜ Lined rows b at (now (w .entry)) (now (w .exit)) (λ r l. getD (now (seed .entry)) l 0) ⌝ }
+{
+    if seed.len() == 0 {
+        let end = at + rows * b;
+        cells::zero(&mut w[at..end]);
+    } else {
+        seed_each(w, at, seed, rows, b);
     }
 }
 
@@ -126,7 +139,7 @@ fn first_by_cells(
     }
 }
 
-// The same, for short cells: first the seed in every cell, then the ends, and then column by column.
+// The same over any number of columns, for short cells: first the seed in every cell, then the ends, and then whole columns.
 fn first_by_columns(
     w: &mut [u8],
     at: usize,
@@ -150,7 +163,7 @@ fn first_by_columns(
     fill::fill_but(w, at, s, g, slant, shift, rows, 0, n, u, v);
 }
 
-// The same, in the way that suits the cells.
+// The same over at most ten columns, in the way that suits the cells.
 pub fn set_first(
     w: &mut [u8],
     at: usize,
@@ -177,8 +190,8 @@ pub fn set_first(
     }
 }
 
-// The same over any number of columns: the first group is set, and the others are added to it.
-pub fn set_ended(
+// The same over any number of columns: the first group is set cell by cell, and the others are added to it.
+fn set_by_groups(
     w: &mut [u8],
     at: usize,
     seed: &[u8],
@@ -196,6 +209,33 @@ pub fn set_ended(
     ensures { λ _. ⌜ Lined rows (g .b) at (now (w .entry)) (now (w .exit)) (λ r l. getD (now (seed .entry)) l 0 ⊕ ended (g .m) (blank u v (lane (g .m) (g .b) (now (s .entry)) l)) slant ((r + shift) % g .m) h n) ⌝ }
 {
     let e = lines::group_but(0, n, u, v);
-    set_first(w, at, seed, s, g, slant, shift, rows, h, e, u, v);
+    first_by_cells(w, at, seed, s, g, slant, shift, rows, h, e, u, v);
     fill::fill_but(w, at, s, g, slant, shift, rows, e, n, u, v);
+}
+
+// The same, in the way that suits the cells.
+pub fn set_ended(
+    w: &mut [u8],
+    at: usize,
+    seed: &[u8],
+    s: &[u8],
+    g: Grid,
+    slant: usize,
+    shift: usize,
+    rows: usize,
+    h: usize,
+    n: usize,
+    u: usize,
+    v: usize,
+)
+    requires { ⌜ (0 < length (now seed) → g .b ≤ length (now seed)) × (at + rows * g .b ≤ length (now w)) × (rows < g .m) × (shift < g .m) × (h < 129) × (h * g .column + g .column ≤ length (now s)) × Sized (g .m) (g .b) (g .column) × Crosses (g .m) (g .column) (length (now s)) slant 0 0 n ⌝ }
+    ensures { λ _. ⌜ Lined rows (g .b) at (now (w .entry)) (now (w .exit)) (λ r l. getD (now (seed .entry)) l 0 ⊕ ended (g .m) (blank u v (lane (g .m) (g .b) (now (s .entry)) l)) slant ((r + shift) % g .m) h n) ⌝ }
+{
+    if 128 <= g.b {
+        set_by_groups(w, at, seed, s, g, slant, shift, rows, h, n, u, v);
+    } else if rows == 1 {
+        set_by_groups(w, at, seed, s, g, slant, shift, rows, h, n, u, v);
+    } else {
+        first_by_columns(w, at, seed, s, g, slant, shift, rows, h, n, u, v);
+    }
 }

@@ -2,9 +2,9 @@
 use Prim.Native.Nat.{_+_, _*_, _-_}
 use denote.Ref.{now}
 use borrow.Rule.Slice.PartMut.{putMid}
-use Rattle.cells.proofs.Puts.{put-count}
+use Rattle.cells.proofs.Puts.{put-count, put-cleared}
 use Rattle.parities.proofs.Rows.{grown-join}
-use Rattle.parities.proofs.Columns.{last-cell, cleared, spread-grown}
+use Rattle.parities.proofs.Columns.{last-cell, spread-grown}
 use borrow.Author.Needs.{needs}
 use native.Mathlib.Omega.{arith}
 use Rattle.parities.proofs.put_columns.Statement.{statement}
@@ -61,7 +61,7 @@ returns c =
     let v = c .before .before .add-columns in
     let e = h + a .g .column + a .g .column - a .g .b in
     grown-join (a .g .m) (a .k) (a .g .b) s (u .last .0) (v .last .0) 0 (a .k) (omega arith) (omega arith)
-    (spread-grown (z .pre .0) (a .k) s (putMid h (e - h) s t) (u .last .0) (put-count (cleared s t h e (omega arith) (omega arith) (c .before .before .before .before .before .before .before .before .before .before .zero .ensures)) (omega arith)) (u .ensures)) (v .ensures)
+    (spread-grown (z .pre .0) (a .k) s (putMid h (e - h) s t) (u .last .0) (put-count (put-cleared s t h e (omega arith) (omega arith) (c .before .before .before .before .before .before .before .before .before .before .zero .ensures)) (omega arith)) (u .ensures)) (v .ensures)
 
 pub put-columns-spec : {M : Type 1} → statement M
 put-columns-spec =

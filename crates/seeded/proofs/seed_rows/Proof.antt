@@ -1,96 +1,72 @@
--- `seeded::seed_rows` meets its contract. The invariant: the cells before r are set, the others as they were.
-use mathlib.Core.Path.{ap, _∙_}
-use Prim.Native.Nat.{ℕ, _+_, _*_, _-_, _≤_}
+-- `seeded::seed_rows` meets its contract: no seed is zero, and all cells together are one run.
+use mathlib.Core.Path.{_≡_, sym, _∙_}
+use Prim.Native.Nat.{ℕ, _+_, _*_, _≤_}
 use native.Mathlib.Omega.{arith}
-use lib.ListN.{length, getD}
+use lib.ListN.{length, getD, List·getD-eq-default}
 use denote.Ref.{now}
-use Rattle.cells.proofs.Parts.{parts-end, part-size}
-use Rattle.cells.proofs.Puts.{put-part, put-count, put-start}
-use Rattle.lines.specs.Rows.{Lined}
-use Rattle.lines.proofs.Rows.{lined-none, lined-more, lined-count}
+use Rattle.cells.proofs.Parts.{parts-end}
+use Rattle.cells.proofs.Puts.{put-cleared}
 use borrow.Author.Needs.{needs}
-use native.Mathlib.Omega.{arith}
 use Rattle.seeded.proofs.seed_rows.Statement.{statement}
 use Rattle.seeded.proofs.seed_rows.Tie as tie
 
-abbrev Inv-loop : tie.InvT-loop
-Inv-loop w₀ at seed rows b r₀ w r = (r ≤ rows) × Lined r b at w₀ w (λ r l. getD seed l 0)
+mul-end : tie.Need-mul-end
+mul-end c = search needs
 
-abbrev μ-loop : tie.MeasureT-loop
-μ-loop w₀ at seed rows b r₀ w r = rows - r
+add-end : tie.Need-add-end
+add-end c = search needs
 
-loop-holds : tie.Need-loop-holds Inv-loop μ-loop
-loop-holds c =
-    let a = c .before .before .args in
-    (omega arith, lined-none (a .b) (a .at) (now (a .w)) _)
+sub-zero : tie.Need-sub-zero
+sub-zero c = search needs
 
-mul-from : tie.Need-mul-from Inv-loop μ-loop
-mul-from c = omega (arith, c .before .before .before .before .pre .1, parts-end (c .before .before .before .before .args .b) (c .loop-test .taken))
+part-zero-start : tie.Need-part-zero-start
+part-zero-start c = search needs
 
-add-from : tie.Need-add-from Inv-loop μ-loop
-add-from c = omega (arith, c .before .before .before .before .pre .1, parts-end (c .before .before .before .before .args .b) (c .loop-test .taken))
+part-zero-end : tie.Need-part-zero-end
+part-zero-end c = search needs
 
-add-start : tie.Need-add-start Inv-loop μ-loop
-add-start c = omega (arith, c .before .before .before .before .pre .1, parts-end (c .before .before .before .before .args .b) (c .loop-test .taken))
+zero-requires : tie.Need-zero-requires
+zero-requires c κs = search needs
 
-sub-start : tie.Need-sub-start Inv-loop μ-loop
-sub-start c = search needs
+seed-each-requires : tie.Need-seed-each-requires
+seed-each-requires c κs = search needs
 
-part-start-start : tie.Need-part-start-start Inv-loop μ-loop
-part-start-start c = search needs
+same-length : tie.Need-same-length
+same-length c = search needs
 
-part-start-end : tie.Need-part-start-end Inv-loop μ-loop
-part-start-end c = omega (arith, c .before .before .before .before .pre .1, c .before .loop .inv .1 .size, parts-end (c .before .before .before .before .args .b) (c .loop-test .taken))
-
-start-requires : tie.Need-start-requires Inv-loop μ-loop
-start-requires c κs =
-    let z = c .before .before .before .before .before in
-    let y = c .before .before .loop in
-    λ h. omega (arith, z .pre .0 h, part-size (y .w) (z .args .at + y .r * z .args .b) (z .args .b) (omega (arith, z .pre .1, y .inv .1 .size, parts-end (z .args .b) (c .before .loop-test .taken))))
-
-add-r : tie.Need-add-r Inv-loop μ-loop
-add-r c = search needs
-
-loop-less : tie.Need-loop-less Inv-loop μ-loop
-loop-less c = search needs
-
-loop-again : tie.Need-loop-again Inv-loop μ-loop
-loop-again c =
-    let z = c .before .before .before .before .before .before .before .before in
+returns : tie.Need-returns
+returns c =
+    let z = c .before .before .before .before .before .before .before in
     let a = z .args in
-    let y = c .before .before .before .before .before .loop in
-    let x = c .before .before .start in
-    let from : ℕ = a .at + y .r * a .b in
-    let room : from + a .b ≤ length (y .w) = omega (arith, z .pre .1, y .inv .1 .size, parts-end (a .b) (c .before .before .before .before .loop-test .taken)) in
-    let size = part-size (y .w) from (a .b) room in (
-      omega arith,
-      lined-more (y .r) (a .b) (a .at) (now (a .w)) (y .w) _ (λ r l. getD (now (a .seed)) l 0) (y .inv .1)
-          (put-count (put-part (y .w) (x .last .0) from (from + a .b - from) (λ l. getD (now (a .seed)) l 0) (omega arith) (x .ensures .size ∙ size ∙ omega arith) (λ l h.
-          put-start (x .ensures) l (omega arith) ∙ ap (λ (v : ℕ). getD (now (a .seed)) v 0) (omega arith))) (omega arith)),
-    )
+    let w = now (a .w) in
+    let e = a .at + a .rows * a .b in
+    let q = put-cleared w (c .before .before .zero .last .0) (a .at) e (omega arith) (omega (arith, z .pre .1)) (c .before .before .zero .ensures) in
+    let none : (l : ℕ) → getD (now (a .seed)) l 0 ≡ 0 = λ l. List·getD-eq-default (now (a .seed)) 0 {n = l} (omega (arith, c .before .before .before .before .if1 .taken)) in
+    record {
+      size = q .size;
+      inside = λ r l hr hl. q .inside (r * a .b + l) (omega (arith, parts-end (a .b) hr)) ∙ sym (none l);
+      before = q .before;
+      after = λ p h. q .after p (omega arith);
+    }
 
-same-length : tie.Need-same-length Inv-loop μ-loop
-same-length c = c .before .loop .inv .1 .size
+same-length-2 : tie.Need-same-length-2
+same-length-2 c = search needs
 
-returns : tie.Need-returns Inv-loop μ-loop
-returns c = lined-count (c .before .loop .inv .1) (omega (arith, c .before .loop .inv .0, c .loop-test .left))
+returns-2 : tie.Need-returns-2
+returns-2 c = search needs
 
 pub seed-rows-spec : {M : Type 1} → statement M
 seed-rows-spec =
     tie.close
     (tie.spec
-    Inv-loop
-    μ-loop
-    loop-holds
-    mul-from
-    add-from
-    add-start
-    sub-start
-    part-start-start
-    part-start-end
-    start-requires
-    add-r
-    loop-less
-    loop-again
+    mul-end
+    add-end
+    sub-zero
+    part-zero-start
+    part-zero-end
+    zero-requires
+    seed-each-requires
     same-length
-    returns)
+    returns
+    same-length-2
+    returns-2)
