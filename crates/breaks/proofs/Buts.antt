@@ -4,7 +4,8 @@
 --   window-inner, window-last  a window before the last data column, and one that reaches it
 --   window-none, window-join   no columns, and a window after others
 --   window-line                all columns
---   but-H, but-D               what `lineBut` is for column H and for column D
+--   but-H, but-row             what `lineBut` is for column H, and for D or no column
+--   but-last                   row m - 1 is zero
 --   rest-H, rest-D             what line i differs by from line m - 1: what diagonal i and row i break by
 use mathlib.Core.Path.{_≡_, sym, ap, ap₂, _∙_}
 use Prim.Native.Nat.{ℕ, _+_, _-_, _≤_, _<_}
@@ -112,12 +113,13 @@ module _ (m k : ℕ) (big : 1 < m) (few : k ≤ m) (a : Lane) where
       ap₂ _⊕_ (sym (ends-diagonal m k a k d (le-refl k) (le-refl k))) (sym (part-diagonal m k a k d 0 k (le-refl k) (le-refl k)) ∙ whole k 1 d (le-refl k))
       ∙ ⊕-comm (real m a d (k + 1)) (line m a 1 d k)
 
-  but-D : (d : ℕ) → d < m → lineBut m k a (k + 1) d ≡ rowAmount m k a d
+  but-row : (u d : ℕ) → k < u → d < m → lineBut m k a u d ≡ rowAmount m k a d
   unfolding lineBut
-  but-D d l =
-      let h : k < k + 1 = omega arith in
-      ap₂ _⊕_ (sym (ends-row m k a (k + 1) d h)) (sym (part-row m k a (k + 1) d 0 k h) ∙ whole (k + 1) 0 d (omega arith))
-      ∙ ⊕-comm (real m a d k) (line m a 0 d k) ∙ row-end d l
+  but-row u d h l =
+      ap₂ _⊕_ (sym (ends-row m k a u d h)) (sym (part-row m k a u d 0 k h) ∙ whole u 0 d (omega arith)) ∙ ⊕-comm (real m a d k) (line m a 0 d k) ∙ row-end d l
+
+  pub but-last : (u : ℕ) → k < u → lineBut m k a u (m - 1) ≡ 0
+  but-last u h = but-row u (m - 1) h (omega arith) ∙ row-amount-last m k a (m - 1) (le-refl (m - 1))
 
   abbrev pub rest : ℕ → ℕ → ℕ
   rest u i = lineBut m k a u (m - 1) ⊕ lineBut m k a u i
@@ -132,4 +134,5 @@ module _ (m k : ℕ) (big : 1 < m) (few : k ≤ m) (a : Lane) where
 
   pub rest-D : (i : ℕ) → i < m - 1 → rest (k + 1) i ≡ amountH m k a i
   rest-D i l =
-      ap₂ _⊕_ (but-D (m - 1) (omega arith) ∙ row-amount-last m k a (m - 1) (le-refl (m - 1))) (but-D i (omega arith) ∙ row-amount m k a i l) ∙ simp xor
+      let h : k < k + 1 = omega arith in
+      ap₂ _⊕_ (but-last (k + 1) h) (but-row (k + 1) i h (omega arith) ∙ row-amount m k a i l) ∙ simp xor

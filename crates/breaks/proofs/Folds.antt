@@ -1,29 +1,25 @@
--- Laws for summing cells at listed places, in blocks of lanes, and for counting what is not zero.
+-- Laws for summing cells at listed places, and for counting what is not zero.
 --   cross                     a line can be followed through some data columns
 --   listed-as                 the same cells by another name, at most more of them, within more bytes
 --   listed-total, listed-in   places that were listed first, lent as a part: what their cells add up to, and that they end within the bytes
---   fold                      a run that was set, added to and or-ed together tells of the sums
---   block-next, block-last    one block more was told of, and the last, which may overlap those before
 --   breaking-zero, zero-breaking   nothing is counted exactly where all is zero
 --   breaking-…                no line, one more, the same bytes by another name, more lines after the first, and at most so many
-use mathlib.Core.Path.{_≡_, refl, sym, ap, _∙_, subst}
+use mathlib.Core.Path.{_≡_, refl, sym, ap, _∙_}
 use mathlib.Core.Bool.{Bool, true, false, cond, not}
 use mathlib.Core.List.{List}
 use Prim.Native.Nat.{ℕ, zero, suc, _+_, _*_, _-_, _≤_, _<_}
 use native.Mathlib.Nat.{le-refl, le-trans, mul-le-mul-right}
 use native.Mathlib.Numerals.{add-one}
 use native.Mathlib.Omega.{arith}
-use lib.Bits.{bitOr}
-use lib.ListN.{length, getD}
+use lib.ListN.{length}
 use lib.Dec.{eqb}
 use borrow.Author.Tests.{eq-eqb, eqb-true}
 use Rattle.parity.specs.Xor.{_⊕_}
 use Rattle.parity.specs.Sum.{count, some}
 use Rattle.parity.proofs.Xor.{zero-⊕}
 use Rattle.parity.proofs.Count.{count-cong, count-most, none-pass, all-fail, some-cong, some-false, false-some}
-use Rattle.cells.specs.Runs.{Added, Put, Tells}
+use Rattle.cells.specs.Runs.{Tells}
 use Rattle.cells.proofs.Parts.{part}
-use Rattle.cells.proofs.Tells.{tells-next}
 use Rattle.lines.specs.Lines.{Sized, Crosses}
 use Rattle.lines.specs.Places.{total, Within, Listed}
 use Rattle.lines.proofs.Places.{total-none, total-part, within-part}
@@ -61,30 +57,6 @@ module _ {b z n more : ℕ} {at at′ : List ℕ} {f : List ℕ → ℕ → ℕ}
 
   pub listed-in : (y : ℕ) → z ≤ y → Within (part at′ 0 n) (length (part at′ 0 n)) b y
   listed-in y h = within-part at′ n listed-room b y (p .within y h (λ x k. absurd (omega arith)))
-
--- ---- blocks of lanes
-
-pub fold : {x y z : List ℕ} {f g : ℕ → ℕ} {r : ℕ} → Put x y 0 (length x) f → Added y z g → Tells r (length z) (λ l. getD z l 0) → Tells r (length x) (λ l. f l ⊕ g l)
-fold {x} {y} {z} {f} {g} p a t = record {
-  none = λ e l h. sym (byte l h) ∙ t .none e l (rw size h);
-  all = λ e. t .all (λ l h. let k : l < length x = omega (arith, size) in byte l k ∙ e l k);
-}
-  where
-    size : length z ≡ length x
-    size = a .size ∙ p .size
-
-    byte : (l : ℕ) → l < length x → getD z l 0 ≡ f l ⊕ g l
-    byte l h =
-        let q : 0 + l ≡ l = omega arith in
-        a .byte l (omega (arith, p .size)) ∙ ap (λ (v : ℕ). v ⊕ g l) (ap (λ (v : ℕ). getD y v 0) (sym q) ∙ p .inside l h)
-
-pub block-next : (o r j n x : ℕ) (f : ℕ → ℕ) → x ≡ n → Tells o j f → Tells r x (λ l. f (j + l)) → Tells (bitOr o r) (j + n) f
-block-next o r j n x f e t s = tells-next o r j j n f (omega arith) (omega arith) t (subst (λ (y : ℕ). Tells r y (λ l. f (j + l))) e s)
-
-pub block-last : (o r j n x b : ℕ) (f : ℕ → ℕ) → x ≡ n → n ≤ b → b - n ≤ j → j ≤ b → Tells o j f → Tells r x (λ l. f (b - n + l)) → Tells (bitOr o r) b f
-block-last o r j n x b f e h low high t s =
-    let q : b - n + n ≡ b = omega arith in
-    subst (λ (y : ℕ). Tells (bitOr o r) y f) q (tells-next o r j (b - n) n f low (omega arith) t (subst (λ (y : ℕ). Tells r y (λ l. f (b - n + l))) e s))
 
 -- ---- counting
 

@@ -1,3 +1,4 @@
 pub mod Buts
 pub mod Folds
 pub mod Bands
+pub mod Gathers

@@ -1,2 +1,3 @@
 pub mod Breaking
 pub mod But
+pub mod Gather

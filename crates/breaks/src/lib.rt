@@ -13,6 +13,7 @@ ghost use Rattle.lines.specs.Places.{total, Within, Listed};
 ghost use Rattle.lines.specs.Rows.{Lined};
 ghost use Rattle.breaks.specs.Breaking.{breaking};
 ghost use Rattle.breaks.specs.But.{endsBut, partBut, windowBut, lineBut};
+ghost use Rattle.breaks.specs.Gather.{Gathered};
 
 // Puts the places of the cells that line d has in columns H and D first in `at`. How many there are.
 fn find_ends(at: &mut [usize], g: Grid, k: usize, u: usize, d: usize) -> usize
@@ -71,36 +72,55 @@ fn find_line(at: &mut [usize], g: Grid, k: usize, u: usize, d: usize, t0: usize,
     find_part(at, n, g, k, u, d, t0, t1)
 }
 
-// The lanes from j on, as many as acc has, of the cell seed and of the cells of s at those places, summed, and or-ed together: 0 where
-// the sum is. acc is room for them.
-fn fold_part(acc: &mut [u8], seed: &[u8], s: &[u8], at: &[usize], j: usize) -> u8
-    requires { ⌜ (j + length (now acc) ≤ length (now seed)) × Within (now at) (length (now at)) (j + length (now acc)) (length (now s)) ⌝ }
-    ensures { λ r. ⌜ Tells r (length (now (acc .entry))) (λ l. getD (now (seed .entry)) (j + l) 0 ⊕ total (now (at .entry)) (length (now (at .entry))) (now (s .entry)) (j + l)) ⌝ }
+// Ors the eight parts of 16 bytes that acc has into o: all of o is zero then exactly when o was and acc is.
+fn gather(o: &mut [u8], acc: &[u8])
+    requires { ⌜ (length (now o) ≡ 16) × (length (now acc) ≡ 128) ⌝ }
+    ensures { λ _. ⌜ Gathered (now (o .entry)) (now (o .exit)) 128 (λ l. getD (now (acc .entry)) l 0) ⌝ }
+{
+    for j in 0..o.len() {
+        o[j] = o[j]
+            | acc[j]
+            | acc[16 + j]
+            | acc[32 + j]
+            | acc[48 + j]
+            | acc[64 + j]
+            | acc[80 + j]
+            | acc[96 + j]
+            | acc[112 + j];
+    }
+}
+
+// The 128 lanes from j on of the cell seed and of the cells of s at those places, summed, and or-ed into o. An empty seed is zero. acc is
+// room for the lanes.
+fn fold_part(o: &mut [u8], acc: &mut [u8], seed: &[u8], s: &[u8], at: &[usize], j: usize)
+    requires { ⌜ (length (now o) ≡ 16) × (length (now acc) ≡ 128) × (0 < length (now seed) → j + 128 ≤ length (now seed)) × Within (now at) (length (now at)) (j + 128) (length (now s)) ⌝ }
+    ensures { λ _. ⌜ Gathered (now (o .entry)) (now (o .exit)) 128 (λ l. getD (now (seed .entry)) (j + l) 0 ⊕ total (now (at .entry)) (length (now (at .entry))) (now (s .entry)) (j + l)) ⌝ }
 {
     lines::start(acc, seed, j);
     lines::add_cells(acc, s, at, j);
-    cells::any(acc)
+    gather(o, acc);
 }
 
-// The same of a whole cell of b lanes, 128 at a time; the last 128 may overlap those before.
+// The b lanes of a whole cell, 128 at a time, or-ed together: 0 where all of them are. The last 128 may overlap those before.
 fn fold_long(seed: &[u8], s: &[u8], b: usize, at: &[usize]) -> u8
-    requires { ⌜ (128 ≤ b) × (b ≤ length (now seed)) × Within (now at) (length (now at)) b (length (now s)) ⌝ }
+    requires { ⌜ (128 ≤ b) × (0 < length (now seed) → b ≤ length (now seed)) × Within (now at) (length (now at)) b (length (now s)) ⌝ }
     ensures { λ r. ⌜ Tells r b (λ l. getD (now (seed .entry)) l 0 ⊕ total (now (at .entry)) (length (now (at .entry))) (now (s .entry)) l) ⌝ }
 {
     let last = b - 128;
     let mut acc = [0u8; 128];
-    let mut o: u8 = 0;
+    let mut o = [0u8; 16];
     let mut j: usize = 0;
     while j < last {
-        o = o | fold_part(&mut acc, seed, s, at, j);
+        fold_part(&mut o, &mut acc, seed, s, at, j);
         j += 128;
     }
-    o | fold_part(&mut acc, seed, s, at, last)
+    fold_part(&mut o, &mut acc, seed, s, at, last);
+    cells::any(&o)
 }
 
-// The cell seed plus line d, or-ed together: 0 where the sum is. at is room for the places of the line's cells.
+// The cell seed plus line d, or-ed together: 0 where the sum is. An empty seed is zero. at is room for the places of the line's cells.
 fn fold_line(at: &mut [usize], seed: &[u8], s: &[u8], g: Grid, k: usize, u: usize, d: usize) -> u8
-    requires { ⌜ (length (now seed) ≡ g .b) × (2 + 2 * k ≤ length (now at)) × (d < g .m) × (k ≤ g .m) × Sized (g .m) (g .b) (g .column) × (length (now s) ≡ (k + 2) * g .column) × (128 ≤ g .b) ⌝ }
+    requires { ⌜ (0 < length (now seed) → g .b ≤ length (now seed)) × (2 + 2 * k ≤ length (now at)) × (d < g .m) × (k ≤ g .m) × Sized (g .m) (g .b) (g .column) × (length (now s) ≡ (k + 2) * g .column) × (128 ≤ g .b) ⌝ }
     ensures { λ o. ⌜ Tells o (g .b) (λ l. getD (now (seed .entry)) l 0 ⊕ lineBut (g .m) k (lane (g .m) (g .b) (now (s .entry)) l) u d) ⌝ }
 {
     let b = g.b;
@@ -119,9 +139,9 @@ pub fn sum_line(at: &mut [usize], sum: &mut [u8], s: &[u8], g: Grid, k: usize, u
     fill::fill_places(sum, &s[0..0], true, s, b, &at[0..n], 0);
 }
 
-// How many of lines 0 to m - 2 differ from the cell sum.
+// How many of lines 0 to m - 2 differ from the cell sum; an empty one is zero.
 fn count_straight(at: &mut [usize], sum: &[u8], s: &[u8], g: Grid, k: usize, u: usize) -> usize
-    requires { ⌜ (length (now sum) ≡ g .b) × (2 + 2 * k ≤ length (now at)) × (k ≤ g .m) × Sized (g .m) (g .b) (g .column) × (length (now s) ≡ (k + 2) * g .column) × (128 ≤ g .b) ⌝ }
+    requires { ⌜ (0 < length (now sum) → g .b ≤ length (now sum)) × (2 + 2 * k ≤ length (now at)) × (k ≤ g .m) × Sized (g .m) (g .b) (g .column) × (length (now s) ≡ (k + 2) * g .column) × (128 ≤ g .b) ⌝ }
     ensures { λ r. ⌜ r ≡ breaking (g .m - 1) (g .b) (λ l d. getD (now (sum .entry)) l 0 ⊕ lineBut (g .m) k (lane (g .m) (g .b) (now (s .entry)) l) u d) ⌝ }
 {
     let mut n: usize = 0;
@@ -164,11 +184,23 @@ fn few_long(s: &[u8], g: Grid, k: usize, u: usize) -> usize
     count_summed(&mut at, &mut sum[0..b], s, g, k, u)
 }
 
+// The same of the rows, where there are few columns: row m - 1 is imaginary, and zero.
+fn few_rows(s: &[u8], g: Grid, k: usize, u: usize) -> usize
+    requires { ⌜ (k < u) × (k ≤ 32) × (k ≤ g .m) × Sized (g .m) (g .b) (g .column) × (length (now s) ≡ (k + 2) * g .column) × (128 ≤ g .b) ⌝ }
+    ensures { λ r. ⌜ r ≡ breaking (g .m - 1) (g .b) (λ l d. lineBut (g .m) k (lane (g .m) (g .b) (now (s .entry)) l) u (g .m - 1) ⊕ lineBut (g .m) k (lane (g .m) (g .b) (now (s .entry)) l) u d) ⌝ }
+{
+    let mut at = [0usize; 66];
+    count_straight(&mut at, &s[0..0], s, g, k, u)
+}
+
 // The same where there are few columns.
 fn count_few(s: &[u8], g: Grid, k: usize, u: usize) -> usize
     requires { ⌜ (k ≤ 32) × (k ≤ g .m) × Sized (g .m) (g .b) (g .column) × (length (now s) ≡ (k + 2) * g .column) × (128 ≤ g .b) ⌝ }
     ensures { λ r. ⌜ r ≡ breaking (g .m - 1) (g .b) (λ l d. lineBut (g .m) k (lane (g .m) (g .b) (now (s .entry)) l) u (g .m - 1) ⊕ lineBut (g .m) k (lane (g .m) (g .b) (now (s .entry)) l) u d) ⌝ }
 {
+    if k < u {
+        return few_rows(s, g, k, u);
+    }
     if g.b <= 512 {
         return few_short(s, g, k, u);
     }

@@ -28,7 +28,7 @@ part-fold-long-end c = search needs
 fold-long-requires : tie.Need-fold-long-requires
 fold-long-requires c κs =
     let z = c .before .before .before .before .before .before .before .before .before in
-    (z .pre .6, omega (arith, z .pre .0), listed-in (c .before .before .before .before .find-line .ensures) (omega (arith, z .pre .1)) (length (now (z .args .s))) (omega (arith, z .pre .5)))
+    (z .pre .6, z .pre .0, listed-in (c .before .before .before .before .find-line .ensures) (omega (arith, z .pre .1)) (length (now (z .args .s))) (omega (arith, z .pre .5)))
 
 same-length : tie.Need-same-length
 same-length c = search needs

@@ -1,31 +1,31 @@
--- `breaks::fold_part` meets its contract: the seed, the cells added to it, and what comes of it or-ed together.
-use Rattle.breaks.proofs.Folds.{fold}
+-- `breaks::fold_part` meets its contract: the seed, the cells added to it, and what comes of it gathered.
+use Rattle.cells.proofs.Puts.{put-start, put-count, put-then-added}
+use Rattle.breaks.proofs.Gathers.{gathered-same}
 use borrow.Author.Needs.{needs}
 use native.Mathlib.Omega.{arith}
 use Rattle.breaks.proofs.fold_part.Statement.{statement}
 use Rattle.breaks.proofs.fold_part.Tie as tie
 
 start-requires : tie.Need-start-requires
-start-requires c κs = search needs
+start-requires c κs = λ h. omega (arith, c .before .before .before .before .before .before .pre .1, c .before .before .before .before .before .before .pre .2 h)
 
 add-cells-requires : tie.Need-add-cells-requires
-add-cells-requires c κs = λ x h. omega (arith, c .before .before .before .before .before .before .before .before .before .pre .1 x h, c .before .before .before .start .ensures .size)
+add-cells-requires c κs = λ x h. omega (arith, c .before .before .before .before .before .before .before .before .before .before .pre .1, c .before .before .before .before .before .before .before .before .before .before .pre .3 x h, c .before .before .before .start .ensures .size)
 
-any-requires : tie.Need-any-requires
-any-requires c κs = search needs
+gather-requires : tie.Need-gather-requires
+gather-requires c κs = search needs
 
 same-length : tie.Need-same-length
 same-length c = search needs
 
+same-length-2 : tie.Need-same-length-2
+same-length-2 c = search needs
+
 returns : tie.Need-returns
-returns c = fold (c .before .before .before .before .before .before .before .before .start .ensures) (c .before .before .before .before .add-cells .ensures) (c .any .ensures)
+returns c =
+    gathered-same (c .before .before .gather .ensures) (put-start (put-count (put-then-added (c .before .before .before .before .before .before .before .before .before .before .before .start .ensures) (c .before .before .before .before .before .before .before .add-cells .ensures)) (c .before .before .before .before .before .before .before .before .before .before .before .before .before .before .before .before .before .before .pre .1)))
 
 pub fold-part-spec : {M : Type 1} → statement M
 fold-part-spec =
     tie.close
-    (tie.spec
-    start-requires
-    add-cells-requires
-    any-requires
-    same-length
-    returns)
+    (tie.spec start-requires add-cells-requires gather-requires same-length same-length-2 returns)
