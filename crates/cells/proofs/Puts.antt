@@ -11,12 +11,15 @@
 --   put-lent            one byte more, which was lent
 --   put-again           a run that was set, and then set again to what it held with something added
 --   put-all             the whole run became another one
+--   put-beside          the same byte set in both lists, after the run
+--   through-none, through-one   no bytes added from one run to the next and on, and one more of each
 --   put-then-added      a run that was set, and then added to
 --   added-put           a run added to from its start
 --   added-none, added-both, added-same
-use mathlib.Core.Path.{_≡_, refl, sym, ap, _∙_, subst}
+use mathlib.Core.Path.{_≡_, refl, sym, ap, ap₂, _∙_, subst}
 use mathlib.Core.List.{List}
 use Prim.Native.Nat.{ℕ, _+_, _-_, _≤_, _<_}
+use native.Mathlib.Decide.{ℕ-discrete}
 use native.Mathlib.Omega.{arith}
 use lib.ListN.{length, drop, getD, set, length-set, length-drop, List·getD-eq-default}
 use lib.Seq.{getD-set-same, getD-set-other, length-take-le}
@@ -24,7 +27,7 @@ use borrow.Author.Count.{below-more}
 use borrow.Rule.Slice.PartMut.{putMid}
 use Rattle.parity.specs.Xor.{_⊕_}
 use Rattle.parity.proofs.Xor.{⊕-assoc, ⊕-zero}
-use Rattle.cells.specs.Runs.{Added, Put}
+use Rattle.cells.specs.Runs.{Added, Put, Through}
 use Rattle.cells.proofs.Parts.{part, part-at, by-order, mid-length, mid-before, mid-inside, mid-after}
 
 pub put-kept : (s : List ℕ) (at n : ℕ) (f : ℕ → ℕ) → ((l : ℕ) → l < n → getD s (at + l) 0 ≡ f l) → Put s s at n f
@@ -158,3 +161,50 @@ put-cleared w y at e order room p = put-part w y at (e - at) (λ l. 0) (omega ar
   where
     size : length (part w at e) ≡ e - at
     size = length-take-le (e - at) _ (simp length-drop (omega arith))
+
+-- the same byte set in both lists, after the run
+put-beside : {s t : List ℕ} {at n : ℕ} {f : ℕ → ℕ} (k v : ℕ) → at + n ≤ k → k < length s → Put s t at n f → Put (set s k v) (set t k v) at n f
+put-beside {s} {t} {at} k v past room p = record {
+  size = length-set t k v ∙ p .size ∙ sym (length-set s k v);
+  inside = λ l h. getD-set-other t k (at + l) v 0 (λ q. absurd (omega arith)) ∙ p .inside l h;
+  before = λ x h. kept x (p .before x h);
+  after = λ x h. kept x (p .after x h);
+}
+  where
+    kept : (x : ℕ) → getD t x 0 ≡ getD s x 0 → getD (set t k v) x 0 ≡ getD (set s k v) x 0
+    kept x e = elim (ℕ-discrete x k) [
+      | yes q ↦ ap (λ (y : ℕ). getD (set t k v) y 0) q ∙ getD-set-same t k v 0 (omega (arith, p .size)) ∙ sym (ap (λ (y : ℕ). getD (set s k v) y 0) q ∙ getD-set-same s k v 0 room)
+      | no ne ↦ getD-set-other t k x v 0 ne ∙ e ∙ sym (getD-set-other s k x v 0 ne)
+    ]
+
+pub through-none : (s : List ℕ) (from mid to : ℕ) → Through s s from mid to 0
+through-none s from mid to = record { between = s; first = put-none s mid _; second = put-none s to _ }
+
+pub through-one : (s t : List ℕ) (from mid to n l x : ℕ) → from + n ≤ mid → to + n ≤ mid → mid + n ≤ length s → (from < to → from + n ≤ to) → l < n
+    → x ≡ getD t (mid + l) 0 ⊕ getD t (from + l) 0 → Through s t from mid to l
+    → Through s (set (set t (mid + l) x) (to + l) (getD (set t (mid + l) x) (to + l) 0 ⊕ x)) from mid to (l + 1)
+through-one s t from mid to n l x below under room apart h e q = record {
+  between = set u (mid + l) x;
+  first = put-one s u mid l x _ in-u (e ∙ ap₂ _⊕_ (r .after (mid + l) (omega arith) ∙ p .after (mid + l) (omega arith)) (read ∙ p .before (from + l) (omega arith))) p;
+  second = put-one (set u (mid + l) x) (set t (mid + l) x) to l _ _ (simp length-set (omega (arith, r .size))) (ap₂ _⊕_ (y .after (to + l) (omega arith)) (sym (getD-set-same u (mid + l) x 0 in-u)))
+      (put-same y (λ j hj. sym (ap₂ _⊕_ (getD-set-other u (mid + l) (to + j) x 0 (λ z. absurd (omega arith))) (getD-set-other u (mid + l) (mid + j) x 0 (λ z. absurd (omega arith))))));
+}
+  where
+    u : List ℕ
+    u = q .between
+
+    p : Put s u mid l (λ j. getD s (mid + j) 0 ⊕ getD s (from + j) 0)
+    p = q .first
+
+    r : Put u t to l (λ j. getD u (to + j) 0 ⊕ getD u (mid + j) 0)
+    r = q .second
+
+    in-u : mid + l < length u
+    in-u = omega (arith, p .size)
+
+    -- what is read at `from` was not written
+    read : getD t (from + l) 0 ≡ getD u (from + l) 0
+    read = by-order (getD t (from + l) 0 ≡ getD u (from + l) 0) from to (λ b. r .before (from + l) (omega (arith, apart b))) (λ b. r .after (from + l) (omega arith))
+
+    y : Put (set u (mid + l) x) (set t (mid + l) x) to l (λ j. getD u (to + j) 0 ⊕ getD u (mid + j) 0)
+    y = put-beside (mid + l) x (omega arith) in-u r

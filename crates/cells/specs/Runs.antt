@@ -1,6 +1,8 @@
 -- What becomes of a run of bytes.
 --   Added x y f      y is x with f 0, f 1, … added
 --   Put s t at n f   t is s, but that the n bytes from `at` on are f 0, f 1, …
+--   Through s t from mid to n   s became t: the n bytes at `from` were added to those at `mid`, and these then to those at `to`;
+--                               `between` is what s was between the two
 --   Tells r n f      r is 0 exactly when f 0 to f (n - 1) are
 use mathlib.Core.Path.{_≡_}
 use mathlib.Core.List.{List}
@@ -17,6 +19,11 @@ pub record Put (s t : List ℕ) (at n : ℕ) (f : ℕ → ℕ) : Type 0 where
   pub inside : (l : ℕ) → l < n → getD t (at + l) 0 ≡ f l
   pub before : (p : ℕ) → p < at → getD t p 0 ≡ getD s p 0
   pub after : (p : ℕ) → at + n ≤ p → getD t p 0 ≡ getD s p 0
+
+pub record Through (s t : List ℕ) (from mid to n : ℕ) : Type 0 where
+  pub between : List ℕ
+  pub first : Put s between mid n (λ l. getD s (mid + l) 0 ⊕ getD s (from + l) 0)
+  pub second : Put between t to n (λ l. getD between (to + l) 0 ⊕ getD between (mid + l) 0)
 
 pub record Tells (r n : ℕ) (f : ℕ → ℕ) : Type 0 where
   pub none : r ≡ 0 → (l : ℕ) → l < n → f l ≡ 0

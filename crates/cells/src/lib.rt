@@ -3,7 +3,7 @@ ghost use mathlib.Core.Path.{_≡_};
 ghost use Prim.Native.Nat.{_+_, _≤_, _<_};
 ghost use lib.ListN.{length, getD};
 ghost use Rattle.parity.specs.Xor.{_⊕_};
-ghost use Rattle.cells.specs.Runs.{Added, Put, Tells};
+ghost use Rattle.cells.specs.Runs.{Added, Put, Through, Tells};
 
 // Adds cell to acc.
 pub fn xor_into(acc: &mut [u8], cell: &[u8])
@@ -52,6 +52,19 @@ pub fn add_within(w: &mut [u8], at: usize, from: usize, n: usize)
 {
     for l in 0..n {
         w[at + l] = w[at + l] ^ w[from + l];
+    }
+}
+
+// Adds the n bytes at `from` to the n bytes at `mid`, and these then to the n bytes at `to`. Byte for byte both are done at once: no byte
+// at `from` is written before it is read.
+pub fn add_through(w: &mut [u8], from: usize, mid: usize, to: usize, n: usize)
+    requires { ⌜ (from + n ≤ mid) × (to + n ≤ mid) × (mid + n ≤ length (now w)) × (from < to → from + n ≤ to) ⌝ }
+    ensures { λ _. ⌜ Through (now (w .entry)) (now (w .exit)) from mid to n ⌝ }
+{
+    for l in 0..n {
+        let x = w[mid + l] ^ w[from + l];
+        w[mid + l] = x;
+        w[to + l] = w[to + l] ^ x;
     }
 }
 

@@ -23,16 +23,21 @@ pub fn add_row(w: &mut [u8], g: Grid, from: usize, to: usize)
     }
 }
 
-// One step of the walk: adds row `from` of the first half to row `to` of the second, and that to row `to` of the first.
+// One step of the walk: adds row `from` of the first half to row `to` of the second, and that to row `to` of the first. Row m - 1 is
+// imaginary, and zero.
 fn turn(w: &mut [u8], g: Grid, from: usize, to: usize)
     requires { ⌜ (length (now w) ≡ 2 * g .column) × Sized (g .m) (g .b) (g .column) × (to < g .m - 1) ⌝ }
     ensures { λ _. ⌜ ((l : ℕ) → l < g .b → Turned (g .m) from to (lane (g .m) (g .b) (now (w .entry)) l) (lane (g .m) (g .b) (now (w .exit)) l)) ⌝ }
 {
-    add_row(w, g, from, to);
+    let m = g.m;
     let b = g.b;
     let first = to * b;
     let second = g.column + first;
-    cells::add_within(w, first, second, b);
+    if from < m - 1 {
+        cells::add_through(w, from * b, second, first, b);
+    } else {
+        cells::add_within(w, first, second, b);
+    }
 }
 
 // Parts the columns that stand mixed in the halves of w: row by row from row m - 1 on, each row delta above the last, modulo m.
