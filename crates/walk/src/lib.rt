@@ -1,27 +1,11 @@
 // Two columns that stand mixed with one another in the halves of a buffer are parted again.
 use lines::Grid;
 ghost use mathlib.Core.Path.{_≡_};
-ghost use Prim.Native.Nat.{ℕ, _+_, _*_, _-_, _≤_, _<_};
+ghost use Prim.Native.Nat.{ℕ, _*_, _-_, _≤_, _<_};
 ghost use lib.ListN.{length};
-ghost use Rattle.parity.specs.Xor.{_⊕_};
 ghost use Rattle.parity.specs.Stripe.{lane};
-ghost use Rattle.cells.specs.Runs.{Put};
-ghost use Rattle.lines.specs.Lines.{real, Sized};
+ghost use Rattle.lines.specs.Lines.{Sized};
 ghost use Rattle.walk.specs.Walk.{Reaches, Turned, Walked};
-
-// Adds row `from` of the first half to row `to` of the second. Row m - 1 is imaginary, and zero.
-pub fn add_row(w: &mut [u8], g: Grid, from: usize, to: usize)
-    requires { ⌜ (length (now w) ≡ 2 * g .column) × Sized (g .m) (g .b) (g .column) × (to < g .m - 1) ⌝ }
-    ensures { λ _. ⌜ Put (now (w .entry)) (now (w .exit)) (g .column + to * g .b) (g .b) (λ l. lane (g .m) (g .b) (now (w .entry)) l to 1 ⊕ real (g .m) (lane (g .m) (g .b) (now (w .entry)) l) from 0) ⌝ }
-{
-    let m = g.m;
-    if from < m - 1 {
-        let b = g.b;
-        let first = from * b;
-        let second = g.column + to * b;
-        cells::add_within(w, second, first, b);
-    }
-}
 
 // One step of the walk: adds row `from` of the first half to row `to` of the second, and that to row `to` of the first. Row m - 1 is
 // imaginary, and zero.
