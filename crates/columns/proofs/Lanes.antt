@@ -8,7 +8,7 @@
 --   diagonal-and-d            where u is a data column, and v is D
 --   d-first, d-second         where D is absent, and no data column
 --   total-S                   S, from H and D
-use mathlib.Core.Path.{_≡_, refl, sym, ap, ap₂, _∙_}
+use mathlib.Core.Path.{_≡_, sym, ap, ap₂, _∙_}
 use mathlib.Core.Logic.{_≢_}
 use Prim.Native.Nat.{ℕ, _+_, _*_, _-_, _%_, _≤_, _<_}
 use native.Mathlib.Nat.{one-mul, mod-lt, mod-eq-of-lt, mod-add-mod, add-mod-right}

@@ -13,8 +13,8 @@ use lib.ListN.{length, getD}
 use Rattle.parity.specs.Xor.{_⊕_}
 use Rattle.parity.specs.Sum.{sum}
 use Rattle.parity.specs.Shape.{columnLength}
-use Rattle.parity.specs.Equations.{Lane, back, S, Holds}
-use Rattle.parity.specs.Stripe.{lane, Valid}
+use Rattle.parity.specs.Equations.{Lane, back, S}
+use Rattle.parity.specs.Stripe.{lane}
 use Rattle.parity.proofs.Xor.{⊕-assoc, ⊕-cancel, xor}
 use Rattle.cells.specs.Runs.{Added, Put}
 use Rattle.cells.proofs.Parts.{part}
@@ -29,7 +29,7 @@ use Rattle.fill.specs.Fill.{Lined}
 use Rattle.fill.proofs.Rows.{lined-same}
 use Rattle.fill.proofs.Sweeps.{BothSwept}
 use Rattle.walk.specs.Walk.{Column, Parted, Walked}
-use Rattle.columns.specs.Columns.{Ready, SameBut, SameButTwo, OneRestored, TwoRestored}
+use Rattle.columns.specs.Columns.{Ready, OneRestored, TwoRestored}
 use Rattle.columns.specs.Sums.{rowLeft, diagonalLeft, Mixes}
 use Rattle.columns.proofs.Rooms.{first-line, one-row-put}
 use Rattle.columns.proofs.Bench.{bench-now, first-set, second-set, first-added, halves-added, TurnedIn, turned-added, one-restored, two-restored}

@@ -10,7 +10,7 @@ ghost use Rattle.parity.specs.Sum.{sum};
 ghost use Rattle.parity.specs.Equations.{back};
 ghost use Rattle.parity.specs.Stripe.{lane};
 ghost use Rattle.cells.specs.Runs.{Put};
-ghost use Rattle.lines.specs.Lines.{real, span, Sized, Crosses};
+ghost use Rattle.lines.specs.Lines.{real, span, Sized};
 ghost use Rattle.fill.specs.Fill.{Lined};
 ghost use Rattle.walk.specs.Walk.{Reaches};
 ghost use Rattle.columns.specs.Columns.{Ready, OneRestored, TwoRestored};

@@ -5,13 +5,11 @@ use mathlib.Core.Path.{_≡_, sym, ap, ap₂, _∙_}
 use mathlib.Core.Bool.{cond}
 use mathlib.Core.List.{List}
 use Prim.Native.Nat.{ℕ, _+_, _-_, _*_, _≤_, _<_}
-use native.Mathlib.Nat.{le-refl}
 use native.Mathlib.Omega.{arith}
 use lib.Dec.{eqb}
 use lib.ListN.{getD}
 use Rattle.parity.specs.Xor.{_⊕_}
 use Rattle.parity.specs.Shape.{columnLength}
-use Rattle.parity.specs.Equations.{Lane}
 use Rattle.parity.specs.Stripe.{byte, lane}
 use Rattle.parity.proofs.Sum.{sum-cong}
 use Rattle.cells.specs.Runs.{Put}

@@ -9,7 +9,7 @@
 --   rows-left, diagonals-left    s has what a has but in columns u and v, and the equations of a hold: what is left of a row of s is what
 --                                a has there in these columns, and of a diagonal that plus S
 use mathlib.Core.Path.{_≡_, sym, ap, ap₂, _∙_, subst}
-use mathlib.Core.Bool.{Bool, cond}
+use mathlib.Core.Bool.{cond}
 use mathlib.Core.Logic.{_≢_}
 use Prim.Native.Nat.{ℕ, zero, suc, _+_, _*_, _-_, _≤_, _<_}
 use native.Mathlib.Numerals.{add-one}
@@ -20,9 +20,9 @@ use Rattle.parity.specs.Xor.{_⊕_}
 use Rattle.parity.specs.Equations.{Lane, back, S, Holds}
 use Rattle.parity.proofs.Xor.{⊕-assoc, ⊕-zero, zero-⊕, ⊕-self, xor}
 use Rattle.cells.proofs.Parts.{by-order}
-use Rattle.lines.specs.Lines.{real, line, span, ended}
+use Rattle.lines.specs.Lines.{real, span, ended}
 use Rattle.lines.specs.Places.{blank}
-use Rattle.lines.proofs.Lines.{real-in, span-none, span-line, span-more, span-join}
+use Rattle.lines.proofs.Lines.{span-none, span-line, span-more, span-join}
 use Rattle.lines.proofs.Places.{blank-other, first-blank, second-blank, blank-real, blank-first, blank-second}
 use Rattle.lines.proofs.Valid.{real-same, span-agree, back-row, row-is, diagonal-is}
 

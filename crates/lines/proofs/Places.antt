@@ -6,7 +6,7 @@
 --   blank-other, first-blank, second-blank   a column that is not left out, and those that are
 --   blank-real, blank-first, blank-second    the same of a cell that may be imaginary
 --   blank-span                             a line over columns none of which is left out
---   blank-one, blank-two                   a line over the columns from 0 on but one, and but two
+--   blank-one                              a line over the columns from 0 on but one
 use mathlib.Core.Path.{_≡_, refl, sym, ap, _∙_, subst}
 use mathlib.Core.Bool.{Bool, true, false, cond}
 use mathlib.Core.Logic.{_≢_}
@@ -167,16 +167,3 @@ module _ (m u : ℕ) (a : Lane) where
       span-over m (blank u u a) u (λ r. blank-first m u u a r u refl) e i 0 n
       ∙ ap (λ (y : ℕ). y ⊕ span m (blank u u a) e i (u + 1) n) below
       ∙ ap (λ (y : ℕ). span m a e i 0 u ⊕ y) above
-
-module _ (m u v : ℕ) (a : Lane) (order : u < v) where
-  pub blank-two : (e i n : ℕ) → v < n → span m (blank u v a) e i 0 n ≡ span m a e i 0 u ⊕ span m a e i (u + 1) v ⊕ span m a e i (v + 1) n
-  blank-two e i n h =
-      let below : span m (blank u v a) e i 0 u ≡ span m a e i 0 u = blank-span m u v a e i 0 u (omega arith) (λ t l k. (λ q. absurd (omega arith), λ q. absurd (omega arith))) in
-      let between : span m (blank u v a) e i (u + 1) v ≡ span m a e i (u + 1) v = blank-span m u v a e i (u + 1) v (omega arith) (λ t l k. (λ q. absurd (omega arith), λ q. absurd (omega arith))) in
-      let above : span m (blank u v a) e i (v + 1) n ≡ span m a e i (v + 1) n = blank-span m u v a e i (v + 1) n (omega arith) (λ t l k. (λ q. absurd (omega arith), λ q. absurd (omega arith))) in
-      span-over m (blank u v a) u (λ r. blank-first m u v a r u refl) e i 0 n
-      ∙ ap (λ (y : ℕ). y ⊕ span m (blank u v a) e i (u + 1) n) below
-      ∙ ap (λ (y : ℕ). span m a e i 0 u ⊕ y) (span-over m (blank u v a) v (λ r. blank-second m u v a r v refl) e i (u + 1) n)
-      ∙ sym (⊕-assoc (span m a e i 0 u) (span m (blank u v a) e i (u + 1) v) (span m (blank u v a) e i (v + 1) n))
-      ∙ ap (λ (y : ℕ). span m a e i 0 u ⊕ y ⊕ span m (blank u v a) e i (v + 1) n) between
-      ∙ ap (λ (y : ℕ). span m a e i 0 u ⊕ span m a e i (u + 1) v ⊕ y) above

@@ -3,12 +3,10 @@
 --   line-but          a line without column u: what is left of it is the line plus its cell in column u
 --   real-same         a cell of a column, and one of another column that is the same
 --   span-agree        a span depends on the bytes of its own columns alone
---   line-but-same     a line without column u depends on the bytes of the other columns alone
 --   back-row          a row stays a row
---   row-is, row-none  a row over the data columns is H's cell, and over these and H it is zero
+--   row-is            a row over the data columns is H's cell
 --   diagonal-is       a diagonal over the data columns is S plus D's cell; of diagonal m - 1 D's cell is imaginary
 use mathlib.Core.Path.{_≡_, sym, ap, ap₂, _∙_, subst}
-use mathlib.Core.Logic.{_≢_}
 use Prim.Native.Nat.{ℕ, suc, _+_, _*_, _-_, _≤_, _<_}
 use native.Mathlib.Nat.{le-refl, zero-mul}
 use native.Mathlib.Numerals.{add-one}
@@ -16,7 +14,7 @@ use native.Mathlib.Decide.{le-ind}
 use native.Mathlib.Omega.{arith}
 use Rattle.parity.specs.Xor.{_⊕_}
 use Rattle.parity.specs.Equations.{Lane, back, S, Holds}
-use Rattle.parity.proofs.Xor.{⊕-zero, ⊕-self, by-sum, xor}
+use Rattle.parity.proofs.Xor.{⊕-zero, by-sum, xor}
 use Rattle.parity.proofs.Sum.{sum-none}
 use Rattle.cells.proofs.Parts.{by-order}
 use Rattle.lines.specs.Lines.{real, line, span}
@@ -56,15 +54,6 @@ span-agree m a b e i x y order same =
         ∙ ap₂ _⊕_ (ih (omega arith)) (real-same m a b (back m i (e * n)) (λ h. same (back m i (e * n)) n h hx (omega arith)))
         ∙ span-more m b e i x n)
 
--- s has what a has in every column below n but u
-pub line-but-same : (m : ℕ) (s a : Lane) (e i u n : ℕ) → u < n → ((r t : ℕ) → r < m - 1 → t < n → t ≢ u → s r t ≡ a r t)
-    → span m s e i 0 u ⊕ span m s e i (u + 1) n ≡ line m a e i n ⊕ real m a (back m i (e * u)) u
-line-but-same m s a e i u n h same =
-    ap₂ _⊕_
-    (span-agree m s a e i 0 u (omega arith) (λ r t hr _ ht. same r t hr (omega arith) (λ q. absurd (omega arith))))
-    (span-agree m s a e i (u + 1) n (omega arith) (λ r t hr hx ht. same r t hr ht (λ q. absurd (omega arith))))
-    ∙ line-but m a e i u n
-
 -- ---- where the equations hold
 
 pub back-row : (m i t : ℕ) → i < m → back m i (0 * t) ≡ i
@@ -77,9 +66,6 @@ module _ (m k : ℕ) (big : 1 < m) (few : k ≤ m) (a : Lane) (holds : Holds m k
       (λ low. sym (H-line m k few a i h) ∙ sym (holds .h i low) ∙ sym (real-in m a i k low))
       (λ high.
       sum-none k (λ t _. ap (λ (r : ℕ). real m a r t) (back-row m i t h) ∙ real-out m a i t high) ∙ sym (real-out m a i k high))
-
-  pub row-none : (i : ℕ) → i < m → line m a 0 i (k + 1) ≡ 0
-  row-none i h = line-more m a 0 i k ∙ ap₂ _⊕_ (row-is i h) (ap (λ (r : ℕ). real m a r k) (back-row m i k h)) ∙ ⊕-self (real m a i k)
 
   pub diagonal-is : (d : ℕ) → d < m → line m a 1 d k ≡ S m k a ⊕ real m a d (k + 1)
   diagonal-is d h = by-order (line m a 1 d k ≡ S m k a ⊕ real m a d (k + 1)) d (m - 1)

@@ -1,7 +1,7 @@
 -- With one column u left out, the others fit a valid stripe exactly when the candidate for u obeys the equations in every lane.
 --   rewritten m k b u s    s with column u rewritten to the candidate
 --   fits-valid             if the others fit, that stripe is valid, and differs in no column but u
---   valid-fits             if a valid stripe differs in no column but u, the others fit, and it is that stripe
+--   valid-fits             if a valid stripe differs in no column but u, the others fit
 use mathlib.Core.Path.{_≡_, sym, _∙_}
 use mathlib.Core.Logic.{_≢_}
 use mathlib.Core.Bool.{Bool, true, false, cond}
@@ -17,9 +17,9 @@ use Rattle.parity.specs.Candidate.{candidate, FitsBut}
 use Rattle.parity.proofs.Xor.{⊕-lt}
 use Rattle.parity.proofs.Sum.{sum-lt}
 use Rattle.parity.proofs.Cells.{holds-same}
-use Rattle.parity.proofs.Bytes.{stripe-ext, build, build-byte, build-stripe}
+use Rattle.parity.proofs.Bytes.{build, build-byte, build-stripe}
 use Rattle.parity.proofs.Stripes.{byte-lt}
-use Rattle.parity.proofs.Candidate.{candidate-other, candidate-same, candidate-holds}
+use Rattle.parity.proofs.Candidate.{candidate-other, candidate-holds}
 
 pub rewritten : ℕ → ℕ → ℕ → ℕ → List ℕ → List ℕ
 rewritten m k b u s = build m k b (λ l. candidate m k (lane m b s l) u)
@@ -70,9 +70,3 @@ module _ (m k b u : ℕ) (s : List ℕ) where
       | no outside ↦ holds-same m k (lane m b v l) (candidate m k (lane m b s l) u)
           (λ i t hi ht. let ne : t ≢ u = λ e. omega arith in sym (candidate-other m k (lane m b s l) u i t ne ∙ same l i t hl hi ht ne)) (vv .lanes l hl)
     ]
-
-    pub fits-only : 1 < m → 0 < b → u < k + 2 → Stripe m k b s → v ≡ rewritten m k b u s
-    fits-only big full inside st =
-        stripe-ext m k b big full v (rewritten m k b u s) (vv .stripe .whole) (fits-valid st valid-fits .stripe .whole) (λ l i t hl hi ht.
-        sym (candidate-same m k u (lane m b s l) (lane m b v l) (vv .lanes l hl) (λ i t hi ht ne. same l i t hl hi ht ne) few inside i t hi ht)
-        ∙ sym (rewritten-byte l i t hl hi ht))

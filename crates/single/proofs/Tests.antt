@@ -4,24 +4,23 @@
 --   fits, fits-none    all of the second half of z is zero
 --   restored           column u in the first half of o
 use mathlib.Core.Path.{_≡_, sym, ap, ap₂, _∙_}
-use mathlib.Core.Logic.{_≢_}
 use mathlib.Core.List.{List}
 use Prim.Native.Nat.{ℕ, _+_, _*_, _-_, _/_, _%_, _≤_, _<_}
 use native.Mathlib.Nat.{mod-lt, mod-add-div', div-mul-le-self, mul-le-mul-right}
 use native.Mathlib.Omega.{arith}
-use lib.ListN.{length, getD}
+use lib.ListN.{getD}
 use Rattle.parity.specs.Xor.{_⊕_}
 use Rattle.parity.specs.Shape.{Shape, columnLength, stripeLength}
-use Rattle.parity.specs.Stripe.{byte, lane, Stripe, Valid}
+use Rattle.parity.specs.Stripe.{byte, Stripe}
 use Rattle.parity.specs.Candidate.{FitsBut}
 use Rattle.parity.proofs.Xor.{⊕-self, ⊕-eq}
 use Rattle.parity.proofs.Theorems.{frame, served}
 use Rattle.parity.proofs.Stripes.{stripe-completed}
 use Rattle.parity.proofs.Fits.{rewritten, rewritten-other, fits-valid, valid-fits}
 use Rattle.cells.specs.Runs.{Put}
-use Rattle.cells.proofs.Parts.{parts-end, by-order}
+use Rattle.cells.proofs.Parts.{by-order}
 use Rattle.fill.proofs.Rows.{first-at, second-at, row-room}
-use Rattle.columns.specs.Columns.{SameBut, SameButTwo, OneRestored, TwoRestored}
+use Rattle.columns.specs.Columns.{OneRestored, TwoRestored}
 
 pub whole-stripe : (m k b : ℕ) {c : ℕ} → c ≡ columnLength m b → (k + 2) * c ≡ stripeLength m k b
 unfolding stripeLength

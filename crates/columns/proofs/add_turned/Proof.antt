@@ -2,7 +2,6 @@
 use mathlib.Core.Path.{_≡_, sym, ap, _∙_}
 use Prim.Native.Nat.{ℕ, _*_, _-_}
 use native.Mathlib.Nat.{zero-mul}
-use denote.Ref.{now}
 use Rattle.cells.proofs.Puts.{put-none, put-count}
 use Rattle.lines.proofs.Turned.{first-run, second-run}
 use Rattle.columns.proofs.Bench.{turned-in}

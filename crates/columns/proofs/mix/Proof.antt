@@ -1,6 +1,5 @@
 -- `columns::mix` meets its contract: what is left of the rows and of the diagonals, when all columns but two are taken out, is those two.
 use denote.Ref.{now}
-use Rattle.lines.proofs.Lines.{crosses-columns}
 use Rattle.lines.proofs.Whole.{row-crosses, diagonal-crosses, seed-none}
 use Rattle.columns.proofs.Rooms.{half-room}
 use Rattle.columns.proofs.Steps.{mixes}

@@ -1,5 +1,4 @@
 -- `columns::set_diagonals` meets its contract: the diagonals are set from the cell x.
-use denote.Ref.{now}
 use Rattle.lines.proofs.Whole.{diagonal-crosses}
 use Rattle.columns.proofs.Rooms.{half-room}
 use native.Mathlib.Omega.{arith}

@@ -1,5 +1,5 @@
 -- `fill::add_columns` meets its contract: whichever way is taken. A row, shifted by nothing, is that row.
-use mathlib.Core.Path.{_≡_, sym, ap, ap₂, _∙_, subst}
+use mathlib.Core.Path.{sym, ap, ap₂, _∙_, subst}
 use Prim.Native.Nat.{ℕ, _+_, _*_, _-_, _%_}
 use lib.ListN.{length, getD}
 use denote.Ref.{now}

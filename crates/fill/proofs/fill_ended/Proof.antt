@@ -1,14 +1,14 @@
 -- `fill::fill_ended` meets its contract: the place of the end is listed, then those of the line, and their cells are summed.
 use mathlib.Core.Path.{refl, ap, ap₂, _∙_}
-use Prim.Native.Nat.{ℕ, _+_, _≤_}
-use lib.ListN.{length, getD}
+use Prim.Native.Nat.{ℕ, _≤_}
+use lib.ListN.{length}
 use denote.Ref.{now}
 use Rattle.parity.specs.Xor.{_⊕_}
 use Rattle.parity.specs.Stripe.{lane}
 use Rattle.parity.proofs.Xor.{zero-⊕}
 use Rattle.cells.proofs.Puts.{put-same}
 use Rattle.lines.specs.Lines.{real, span, ended}
-use Rattle.lines.specs.Places.{blank, Listed}
+use Rattle.lines.specs.Places.{blank}
 use Rattle.lines.proofs.Lines.{crosses-own}
 use Rattle.lines.proofs.Places.{total-none, total-part, within-part}
 use Rattle.lines.proofs.Seeds.{seed-fresh}

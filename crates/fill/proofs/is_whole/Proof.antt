@@ -3,7 +3,6 @@ use mathlib.Core.Path.{sym}
 use mathlib.Core.Bool.{true≢false}
 use borrow.Author.Tests.{leb-true}
 use native.Mathlib.Omega.{arith}
-use borrow.Author.Needs.{needs}
 use Rattle.fill.proofs.is_whole.Statement.{statement}
 use Rattle.fill.proofs.is_whole.Tie as tie
 

@@ -1,6 +1,6 @@
 -- `seeded::first_by_cells` meets its contract. The invariant: the rows before r are set, the others as they were, and i is the line of row r.
 use mathlib.Core.Path.{_≡_, sym, ap, _∙_}
-use Prim.Native.Nat.{ℕ, _+_, _*_, _-_, _%_, _≤_}
+use Prim.Native.Nat.{ℕ, _+_, _-_, _%_, _≤_}
 use native.Mathlib.Nat.{mod-eq-of-lt, le-refl}
 use lib.ListN.{getD}
 use denote.Ref.{now}

@@ -1,6 +1,6 @@
 -- `seeded::first_by_columns` meets its contract: the seed first, then the ends, which are lines of one column, and then the lines.
-use mathlib.Core.Path.{_≡_, sym, ap, _∙_}
-use Prim.Native.Nat.{ℕ, _+_, _*_, _-_, _%_, _≤_}
+use mathlib.Core.Path.{_≡_, ap, _∙_}
+use Prim.Native.Nat.{ℕ, _+_, _*_, _-_, _%_}
 use native.Mathlib.Nat.{mod-lt}
 use lib.ListN.{length, getD}
 use denote.Ref.{now}

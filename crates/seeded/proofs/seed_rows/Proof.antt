@@ -1,8 +1,8 @@
 -- `seeded::seed_rows` meets its contract: no seed is zero, and all cells together are one run.
 use mathlib.Core.Path.{_≡_, sym, _∙_}
-use Prim.Native.Nat.{ℕ, _+_, _*_, _≤_}
+use Prim.Native.Nat.{ℕ, _+_, _*_}
 use native.Mathlib.Omega.{arith}
-use lib.ListN.{length, getD, List·getD-eq-default}
+use lib.ListN.{getD, List·getD-eq-default}
 use denote.Ref.{now}
 use Rattle.cells.proofs.Parts.{parts-end}
 use Rattle.cells.proofs.Puts.{put-cleared}

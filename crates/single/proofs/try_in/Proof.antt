@@ -1,9 +1,9 @@
 -- `single::try_in` meets its contract: what is left of D when the D that was read is added to it is zero, or not.
 use mathlib.Core.Path.{_≡_, refl, sym, ap, _∙_}
 use mathlib.Core.List.{List}
-use Prim.Native.Nat.{ℕ, _+_, _*_, _-_, _<_}
+use Prim.Native.Nat.{ℕ, _+_, _*_, _-_}
 use native.Mathlib.Omega.{arith}
-use lib.ListN.{length, getD}
+use lib.ListN.{getD}
 use denote.Ref.{now}
 use Rattle.parity.specs.Stripe.{Stripe}
 use Rattle.cells.proofs.Parts.{part-at}

@@ -1,5 +1,4 @@
 -- `single::try_large` meets its contract: it lends a room of two columns.
-use native.Mathlib.Omega.{arith}
 use borrow.Author.Needs.{needs}
 use Rattle.single.proofs.try_large.Statement.{statement}
 use Rattle.single.proofs.try_large.Tie as tie

@@ -1,6 +1,5 @@
 -- `single::try_short` meets its contract: whichever room is taken.
 use Rattle.lines.proofs.Whole.{short-column}
-use native.Mathlib.Omega.{arith}
 use borrow.Author.Needs.{needs}
 use Rattle.single.proofs.try_short.Statement.{statement}
 use Rattle.single.proofs.try_short.Tie as tie
