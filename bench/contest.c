@@ -35,7 +35,7 @@ static double goal(const struct shape *p, enum op op, int rival) {
     if (op == ENCODE && rival == PQ_TO_REACH) return wide ? 1.0 : 0;
     if (op == TWO && rival == FIRST + EVENODD) return 2.0;
     if (rival != OWN) return 0;
-    return op == CHECK ? 0.8 : op == ONE ? 0.45 : op == TWO ? (wide && p->k >= 10 ? 0.8 : 0.5) : 0.3;
+    return op == CHECK ? (wide ? 0.8 : 0) : op == ONE ? 0.45 : op == TWO ? (wide && p->k >= 10 ? 0.8 : 0.5) : 0.3;
 }
 
 static size_t slot_size(const struct shape *p, enum pool pool) { return (p->k + 4) * (pool == PACKED ? p->col : p->pitch) / 64 * 64 + 64; }

@@ -78,7 +78,7 @@ pub fn restore_one(s: &[u8], w: &mut [u8], g: Grid, k: usize, u: usize)
 }
 
 // x becomes the sum of all cells of columns H and D, which is S. A column is taken for a row: its cells stand one after another.
-fn total(x: &mut [u8], s: &[u8], g: Grid, k: usize)
+fn total_apart(x: &mut [u8], s: &[u8], g: Grid, k: usize)
     requires { ⌜ (length (now x) ≡ g .b) × Sized (g .m) (g .b) (g .column) × (k ≤ g .m) × (length (now s) ≡ (k + 2) * g .column) ⌝ }
     ensures { λ _. ⌜ Put (now (x .entry)) (now (x .exit)) 0 (length (now (x .entry))) (λ l. sum (g .m - 1) (λ i. span (g .m) (lane (g .m) (g .b) (now (s .entry)) l) 0 i k (k + 2))) ⌝ }
 {
@@ -90,6 +90,42 @@ fn total(x: &mut [u8], s: &[u8], g: Grid, k: usize)
     let d = h + c;
     fill::fill_cell(x, &s[0..0], true, &s[h..h + c], row, 0, 0, 0, cells, 0);
     fill::fill_cell(x, &s[0..0], false, &s[d..d + c], row, 0, 0, 0, cells, 0);
+}
+
+// The same. Both columns are taken for one row, D's cells after H's.
+fn total_at_once(x: &mut [u8], s: &[u8], g: Grid, k: usize)
+    requires { ⌜ (g .m ≤ 65) × (length (now x) ≡ g .b) × Sized (g .m) (g .b) (g .column) × (k ≤ g .m) × (length (now s) ≡ (k + 2) * g .column) ⌝ }
+    ensures { λ _. ⌜ Put (now (x .entry)) (now (x .exit)) 0 (length (now (x .entry))) (λ l. sum (g .m - 1) (λ i. span (g .m) (lane (g .m) (g .b) (now (s .entry)) l) 0 i k (k + 2))) ⌝ }
+{
+    let b = g.b;
+    let c = g.column;
+    let cells = g.m - 1;
+    let row = Grid { m: 2, b, column: b };
+    let h = k * c;
+    fill::fill_cell(
+        x,
+        &s[0..0],
+        true,
+        &s[h..h + 2 * c],
+        row,
+        0,
+        0,
+        0,
+        2 * cells,
+        0,
+    );
+}
+
+// The same: at once where a row can have so many cells.
+fn total(x: &mut [u8], s: &[u8], g: Grid, k: usize)
+    requires { ⌜ (length (now x) ≡ g .b) × Sized (g .m) (g .b) (g .column) × (k ≤ g .m) × (length (now s) ≡ (k + 2) * g .column) ⌝ }
+    ensures { λ _. ⌜ Put (now (x .entry)) (now (x .exit)) 0 (length (now (x .entry))) (λ l. sum (g .m - 1) (λ i. span (g .m) (lane (g .m) (g .b) (now (s .entry)) l) 0 i k (k + 2))) ⌝ }
+{
+    if g.m <= 65 {
+        total_at_once(x, s, g, k);
+    } else {
+        total_apart(x, s, g, k);
+    }
 }
 
 // The halves of w become data columns u and v, mixed: the first what is left of H, the second what is left of S plus D, row r of it from

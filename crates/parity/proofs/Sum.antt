@@ -94,6 +94,15 @@ sum-pairs (suc n) f = rw (twice n, sum-pairs n f) (⊕-assoc (sum n (λ j. f (j 
     twice : (n : ℕ) → suc n + suc n ≡ suc (suc (n + n))
     twice n = omega arith
 
+-- some, and then others
+pub sum-join : (n m : ℕ) (f : ℕ → ℕ) → sum (n + m) f ≡ sum n f ⊕ sum m (λ j. f (n + j))
+unfolding sum
+sum-join n zero f = ap (λ (x : ℕ). sum x f) (let e : n + 0 ≡ n = omega arith in e) ∙ sym (⊕-zero (sum n f))
+sum-join n (suc m) f =
+    ap (λ (x : ℕ). sum x f) (let e : n + suc m ≡ suc (n + m) = omega arith in e)
+    ∙ ap (λ (x : ℕ). x ⊕ f (n + m)) (sum-join n m f)
+    ∙ ⊕-assoc (sum n f) (sum m (λ j. f (n + j))) (f (n + m))
+
 -- what lies past k is zero
 pub sum-cut : (k m : ℕ) {f : ℕ → ℕ} → k ≤ m → ((i : ℕ) → k ≤ i → i < m → f i ≡ 0) → sum m f ≡ sum k f
 unfolding sum

@@ -1,4 +1,4 @@
--- `columns::total` meets its contract: column H taken for a row, and then column D.
+-- `columns::total_apart` meets its contract: column H taken for a row, and then column D.
 use mathlib.Core.Path.{refl, sym, ap, ap₂, _∙_}
 use Prim.Native.Nat.{ℕ, _+_, _*_, _-_}
 use native.Mathlib.Omega.{arith}
@@ -8,13 +8,14 @@ use Rattle.parity.specs.Stripe.{lane}
 use Rattle.cells.proofs.Parts.{part, part-size}
 use Rattle.cells.proofs.Puts.{put-same, put-count, put-again}
 use Rattle.lines.specs.Lines.{span}
+use Rattle.lines.proofs.Lines.{column-is}
 use Rattle.lines.proofs.Seeds.{seed-fresh, seed-kept}
 use Rattle.lines.proofs.Whole.{seed-none, no-seed}
 use Rattle.columns.proofs.Totals.{row-sized, row-crosses-all, column-sum, both-columns}
 use borrow.Author.Needs.{needs}
 use native.Mathlib.Omega.{arith}
-use Rattle.columns.proofs.total.Statement.{statement}
-use Rattle.columns.proofs.total.Tie as tie
+use Rattle.columns.proofs.total_apart.Statement.{statement}
+use Rattle.columns.proofs.total_apart.Tie as tie
 
 sub-cells : tie.Need-sub-cells
 sub-cells c = search needs
@@ -50,7 +51,7 @@ fill-cell-requires : tie.Need-fill-cell-requires
 fill-cell-requires c κs =
     let z = c .before .before .before .before .before .before in
     let a = z .args in
-    (seed-none (now (a .s)) (a .g .b), omega (arith, z .pre .0), row-sized (z .pre .1), row-crosses-all (z .pre .1) (part-size (now (a .s)) (a .k * a .g .column) (a .g .column) (omega (arith, z .pre .3))))
+    (seed-none (now (a .s)) (a .g .b), omega (arith, z .pre .0), row-sized (z .pre .1), row-crosses-all (z .pre .1) (omega (arith, z .pre .1 .few)) (omega (arith, column-is (a .g .m) (a .g .b) (a .g .column) (z .pre .1), part-size (now (a .s)) (a .k * a .g .column) (a .g .column) (omega (arith, z .pre .3)))))
 
 sub-fill-cell-3 : tie.Need-sub-fill-cell-3
 sub-fill-cell-3 c = search needs
@@ -77,7 +78,7 @@ fill-cell-requires-2 : tie.Need-fill-cell-requires-2
 fill-cell-requires-2 c κs =
     let z = c .before .before .before .before .before .before .before .before .before .before .before .before in
     let a = z .args in
-    (seed-none (now (a .s)) (a .g .b), omega (arith, z .pre .0, c .before .before .before .before .before .fill-cell .ensures .size), row-sized (z .pre .1), row-crosses-all (z .pre .1) (part-size (now (a .s)) (a .k * a .g .column + a .g .column) (a .g .column) (omega (arith, z .pre .3))))
+    (seed-none (now (a .s)) (a .g .b), omega (arith, z .pre .0, c .before .before .before .before .before .fill-cell .ensures .size), row-sized (z .pre .1), row-crosses-all (z .pre .1) (omega (arith, z .pre .1 .few)) (omega (arith, column-is (a .g .m) (a .g .b) (a .g .column) (z .pre .1), part-size (now (a .s)) (a .k * a .g .column + a .g .column) (a .g .column) (omega (arith, z .pre .3)))))
 
 same-length : tie.Need-same-length
 same-length c = search needs
@@ -98,8 +99,8 @@ returns c =
     (column-sum (z .pre .1) (now (a .s)) (a .k + 1) q l (omega arith) h)
     ∙ both-columns m (lane m (a .g .b) (now (a .s)) l) (a .k))) (sym (z .pre .0))
 
-pub total-spec : {M : Type 1} → statement M
-total-spec =
+pub total-apart-spec : {M : Type 1} → statement M
+total-apart-spec =
     tie.close
     (tie.spec
     sub-cells
