@@ -173,12 +173,12 @@ module _ (m k b : ℕ) {c : ℕ} (s w : List ℕ) (ready : Ready m k b c (length
   -- ---- two data columns
 
   module _ (u v : ℕ) (order : u < v) (top : v < k) where
-    pub mixes : m % 2 ≡ 1 → (e : ℕ) {x x₁ w₁ w₂ w₃ : List ℕ} → length x ≡ b → Put x x₁ 0 (length x) (parities m b u v s k) → Lined (m - 1) b 0 w w₁ (Ended m b u v s (part s 0 0) 0 0 k e)
+    pub mixes : m % 2 ≡ 1 → (e : ℕ) {x x₁ w₀ w₁ w₂ w₃ : List ℕ} → length x ≡ b → Put x x₁ 0 (length x) (parities m b u v s k) → length w₀ ≡ length w → Lined (m - 1) b 0 w₀ w₁ (Ended m b u v s (part s 0 0) 0 0 k e)
         → Lined (m - 1) b c w₁ w₂ (Ended m b u v s x₁ 1 v (k + 1) e) → BothSwept m b u v s v w₂ w₃ e k → Mixes m k b u v s w w₃
-    mixes odd e {x₁ = x₁} size p q o t =
-        let bench = halves-added m b (second-set m b (ready .sized .column) (first-set m b (bench-now m b w whole) q) o) t in record {
+    mixes odd e {x₁ = x₁} {w₀} size p same q o t =
+        let bench = halves-added m b (second-set m b (ready .sized .column) (first-set m b (bench-now m b w₀ (same ∙ whole)) q) o) t in record {
           size = bench .size ∙ sym whole;
-          mixed = λ r valid same. record {
+          mixed = λ r valid agrees. record {
             last = λ l hl. last-none (lane m b r l) u;
             first = λ i l hi hl.
                 let a = lane m b r l in
@@ -186,12 +186,12 @@ module _ (m k b : ℕ) {c : ℕ} (s w : List ℕ) (ready : Ready m k b c (length
                 bench .first i l hi hl
                 ∙ ap (λ (x : ℕ). x ⊕ span m n 0 i e k) (no-seed s l (ap (λ (j : ℕ). ended m n 0 j k e) (whole-line (omega arith))))
                 ∙ ended-join m n 0 i k e k
-                ∙ row-of-both m k big (ready .few) (lane m b s l) a (valid .lanes l hl) u v (λ z. absurd (omega arith)) (λ x t hx ht. same l x t hl hx ht) (omega arith) (omega arith) i hi
+                ∙ row-of-both m k big (ready .few) (lane m b s l) a (valid .lanes l hl) u v (λ z. absurd (omega arith)) (λ x t hx ht. agrees l x t hl hx ht) (omega arith) (omega arith) i hi
                 ∙ ap₂ _⊕_ (sym (real-in m a i u hi)) (sym (real-in m a i v hi));
             second = λ i l hi hl.
                 let a = lane m b r l in
                 let n = blank u v (lane m b s l) in
-                let agree : (x t : ℕ) → x < m - 1 → t < k + 2 → t ≢ u → t ≢ v → lane m b s l x t ≡ a x t = λ x t hx ht. same l x t hl hx ht in
+                let agree : (x t : ℕ) → x < m - 1 → t < k + 2 → t ≢ u → t ≢ v → lane m b s l x t ≡ a x t = λ x t hx ht. agrees l x t hl hx ht in
                 let ne : u ≢ v = λ z. absurd (omega arith) in
                 bench .second i l hi hl
                 ∙ ⊕-assoc (getD x₁ l 0) (ended m n 1 ((i + v) % m) (k + 1) e) (span m n 1 ((i + v) % m) e k)

@@ -2,10 +2,12 @@
 --   row-sized, row-crosses-all   the numbers of that stripe
 --   column-sum                   the sum of that row is the sum of the column's cells
 --   two-sum                      the same of two columns, one after the other
+--   twice, column-twice          half of a column's cells
+--   halves-sum                   the sum of short cells, folded
 --   both-columns                 the sums of columns H and D, one after the other
 use mathlib.Core.Path.{_≡_, sym, ap, ap₂, _∙_}
 use mathlib.Core.List.{List}
-use Prim.Native.Nat.{ℕ, _+_, _*_, _-_, _≤_, _<_}
+use Prim.Native.Nat.{ℕ, _+_, _*_, _-_, _/_, _%_, _≤_, _<_}
 use native.Mathlib.Omega.{arith}
 use lib.ListN.{getD}
 use Rattle.parity.specs.Xor.{_⊕_}
@@ -14,6 +16,7 @@ use Rattle.parity.specs.Shape.{columnLength}
 use Rattle.parity.specs.Equations.{Lane}
 use Rattle.parity.specs.Stripe.{byte, lane}
 use Rattle.parity.proofs.Sum.{sum-cong, sum-add, sum-join}
+use Rattle.cells.specs.Runs.{Put}
 use Rattle.cells.proofs.Parts.{part, part-at, parts-end}
 use Rattle.lines.specs.Lines.{real, line, span, Sized, Crosses}
 use Rattle.lines.proofs.Lines.{real-in, span-line, column-is}
@@ -73,3 +76,43 @@ pub both-columns : (m : ℕ) (a : Lane) (k : ℕ) → sum (m - 1) (λ i. a i k) 
 both-columns m a k =
     sym (sum-add (m - 1) (λ i. a i k) (λ i. a i (k + 1)))
     ∙ sum-cong (m - 1) (λ i h. ap₂ _⊕_ (sym (real-in m a i k h)) (sym (real-in m a i (k + 1) h)) ∙ sym (cells-span m a i k (omega arith)))
+
+-- the cells of a column are twice as many as half of them
+pub twice : (m : ℕ) → m % 2 ≡ 1 → (m - 1) / 2 + (m - 1) / 2 ≡ m - 1
+twice m odd = omega arith
+
+pub column-twice : {m b c : ℕ} → Sized m b c → m % 2 ≡ 1 → c ≡ (m - 1) / 2 * b + (m - 1) / 2 * b
+column-twice {m} {b} {c} z odd = column-is m b c z ∙ ap (λ (x : ℕ). x * b) (sym (twice m odd)) ∙ omega arith
+
+-- D added to H in the second half of w, and then the lower n cells of the sum to the upper n: what stands in these adds up to S
+module _ {m b c : ℕ} (z : Sized m b c) (k n : ℕ) (all : n + n ≡ m - 1) (s w w₁ w₂ w₃ : List ℕ)
+    (p : Put w w₁ c c (λ i. getD s (k * c + i) 0))
+    (q : Put w₁ w₂ c c (λ i. getD w₁ (c + i) 0 ⊕ getD s (k * c + c + i) 0))
+    (o : Put w₂ w₃ c (n * b) (λ i. getD w₂ (c + i) 0 ⊕ getD w₂ (c + n * b + i) 0)) (l : ℕ) (low : l < b) where
+  abbrev both : ℕ → ℕ
+  both i = lane m b s l i k ⊕ lane m b s l i (k + 1)
+
+  summed : (i : ℕ) → i < m - 1 → getD w₂ (c + (i * b + l)) 0 ≡ both i
+  summed i h =
+      let room : i * b + l < c = omega (arith, column-is m b c z, parts-end b h) in
+      q .inside (i * b + l) room
+      ∙ ap₂ _⊕_
+      (p .inside (i * b + l) room ∙ sym (at-row z s k l i))
+      (ap (λ (x : ℕ). getD s x 0) (let e : k * c + c + (i * b + l) ≡ (k + 1) * c + (i * b + l) = omega arith in e) ∙ sym (at-row z s (k + 1) l i))
+
+  folded : (i : ℕ) → i < n → getD w₃ (c + (i * b + l)) 0 ≡ both i ⊕ both (n + i)
+  folded i h =
+      o .inside (i * b + l) (omega (arith, parts-end b h))
+      ∙ ap₂ _⊕_
+      (summed i (omega arith))
+      (ap (λ (x : ℕ). getD w₂ x 0) (let e : c + n * b + (i * b + l) ≡ c + ((n + i) * b + l) = omega arith in e) ∙ summed (n + i) (omega arith))
+
+  pub halves-sum : span 2 (lane 2 b (part w₃ c (c + n * b)) l) 0 0 0 n ≡ sum (m - 1) (λ i. span m (lane m b s l) 0 i k (k + 2))
+  halves-sum =
+      row-sum b w₃ c (n * b) n l (omega arith) low
+      ∙ sum-cong n folded
+      ∙ sum-add n both (λ i. both (n + i))
+      ∙ sym (sum-join n n both)
+      ∙ ap (λ (x : ℕ). sum x both) all
+      ∙ sum-add (m - 1) (λ i. lane m b s l i k) (λ i. lane m b s l i (k + 1))
+      ∙ both-columns m (lane m b s l) k

@@ -116,12 +116,32 @@ fn total_at_once(x: &mut [u8], s: &[u8], g: Grid, k: usize)
     );
 }
 
-// The same: at once where a row can have so many cells.
-fn total(x: &mut [u8], s: &[u8], g: Grid, k: usize)
-    requires { ⌜ (length (now x) ≡ g .b) × Sized (g .m) (g .b) (g .column) × (k ≤ g .m) × (length (now s) ≡ (k + 2) * g .column) ⌝ }
-    ensures { λ _. ⌜ Put (now (x .entry)) (now (x .exit)) 0 (length (now (x .entry))) (λ l. sum (g .m - 1) (λ i. span (g .m) (lane (g .m) (g .b) (now (s .entry)) l) 0 i k (k + 2))) ⌝ }
+// The same, for short cells. In the second half of w, which is room, D is added to H; then its lower cells to its upper ones, and what stands
+// in the upper ones is taken for a row.
+fn total_short(x: &mut [u8], w: &mut [u8], s: &[u8], g: Grid, k: usize)
+    requires { ⌜ (length (now x) ≡ g .b) × (g .m % 2 ≡ 1) × Ready (g .m) k (g .b) (g .column) (length (now s)) (length (now w)) ⌝ }
+    ensures { λ _. ⌜ Put (now (x .entry)) (now (x .exit)) 0 (length (now (x .entry))) (λ l. sum (g .m - 1) (λ i. span (g .m) (lane (g .m) (g .b) (now (s .entry)) l) 0 i k (k + 2))) × (length (now (w .exit)) ≡ length (now (w .entry))) ⌝ }
 {
-    if g.m <= 65 {
+    let b = g.b;
+    let c = g.column;
+    let n = (g.m - 1) / 2;
+    let half = n * b;
+    let row = Grid { m: 2, b, column: b };
+    let h = k * c;
+    cells::copy_into(&mut w[c..2 * c], &s[h..h + c]);
+    cells::add_run(w, c, s, h + c, c);
+    cells::add_within(w, c, c + half, half);
+    fill::fill_cell(x, &s[0..0], true, &w[c..c + half], row, 0, 0, 0, n, 0);
+}
+
+// The same, in the way that suits the shape. Of w nothing but the second half changes.
+fn total(x: &mut [u8], w: &mut [u8], s: &[u8], g: Grid, k: usize)
+    requires { ⌜ (length (now x) ≡ g .b) × (g .m % 2 ≡ 1) × Ready (g .m) k (g .b) (g .column) (length (now s)) (length (now w)) ⌝ }
+    ensures { λ _. ⌜ Put (now (x .entry)) (now (x .exit)) 0 (length (now (x .entry))) (λ l. sum (g .m - 1) (λ i. span (g .m) (lane (g .m) (g .b) (now (s .entry)) l) 0 i k (k + 2))) × (length (now (w .exit)) ≡ length (now (w .entry))) ⌝ }
+{
+    if g.b < 128 {
+        total_short(x, w, s, g, k);
+    } else if g.m <= 65 {
         total_at_once(x, s, g, k);
     } else {
         total_apart(x, s, g, k);
@@ -137,7 +157,7 @@ fn mix(s: &[u8], w: &mut [u8], x: &mut [u8], g: Grid, k: usize, u: usize, v: usi
     let rows = g.m - 1;
     let second = g.column;
     let e = lines::group_but(0, k, u, v);
-    total(x, s, g, k);
+    total(x, w, s, g, k);
     seeded::set_first(w, 0, &s[0..0], s, g, 0, 0, rows, k, e, u, v);
     seeded::set_first(w, second, x, s, g, 1, v, rows, k + 1, e, u, v);
     fill::fill_both(w, s, g, v, e, k, u, v);
@@ -220,6 +240,16 @@ fn any_two(s: &[u8], w: &mut [u8], x: &mut [u8], g: Grid, k: usize, u: usize, v:
 }
 
 // Columns u and v, where a cell is short: with little room for S, since room is cleared before it is used.
+fn two_small(s: &[u8], w: &mut [u8], g: Grid, k: usize, u: usize, v: usize)
+    requires { ⌜ (g .b ≤ 128) × Ready (g .m) k (g .b) (g .column) (length (now s)) (length (now w)) × (g .m % 2 ≡ 1) × (u < v) × (v < k + 2) × (v < k → Reaches (g .m) (v - u)) ⌝ }
+    ensures { λ _. ⌜ TwoRestored (g .m) k (g .b) u v (now (s .entry)) (now (w .entry)) (now (w .exit)) ⌝ }
+{
+    let b = g.b;
+    let mut sum = [0u8; 128];
+    any_two(s, w, &mut sum[0..b], g, k, u, v);
+}
+
+// The same, with more room.
 fn two_short(s: &[u8], w: &mut [u8], g: Grid, k: usize, u: usize, v: usize)
     requires { ⌜ (g .b ≤ 512) × Ready (g .m) k (g .b) (g .column) (length (now s)) (length (now w)) × (g .m % 2 ≡ 1) × (u < v) × (v < k + 2) × (v < k → Reaches (g .m) (v - u)) ⌝ }
     ensures { λ _. ⌜ TwoRestored (g .m) k (g .b) u v (now (s .entry)) (now (w .entry)) (now (w .exit)) ⌝ }
@@ -229,7 +259,7 @@ fn two_short(s: &[u8], w: &mut [u8], g: Grid, k: usize, u: usize, v: usize)
     any_two(s, w, &mut sum[0..b], g, k, u, v);
 }
 
-// Columns u and v, with room for S.
+// The same, with room for any cell.
 fn two_long(s: &[u8], w: &mut [u8], g: Grid, k: usize, u: usize, v: usize)
     requires { ⌜ Ready (g .m) k (g .b) (g .column) (length (now s)) (length (now w)) × (g .m % 2 ≡ 1) × (u < v) × (v < k + 2) × (v < k → Reaches (g .m) (v - u)) ⌝ }
     ensures { λ _. ⌜ TwoRestored (g .m) k (g .b) u v (now (s .entry)) (now (w .entry)) (now (w .exit)) ⌝ }
@@ -244,7 +274,9 @@ pub fn restore_two(s: &[u8], w: &mut [u8], g: Grid, k: usize, u: usize, v: usize
     requires { ⌜ Ready (g .m) k (g .b) (g .column) (length (now s)) (length (now w)) × (g .m % 2 ≡ 1) × (u < v) × (v < k + 2) × (v < k → Reaches (g .m) (v - u)) ⌝ }
     ensures { λ _. ⌜ TwoRestored (g .m) k (g .b) u v (now (s .entry)) (now (w .entry)) (now (w .exit)) ⌝ }
 {
-    if g.b <= 512 {
+    if g.b <= 128 {
+        two_small(s, w, g, k, u, v);
+    } else if g.b <= 512 {
         two_short(s, w, g, k, u, v);
     } else {
         two_long(s, w, g, k, u, v);

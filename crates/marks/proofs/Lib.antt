@@ -1,3 +1,4 @@
 -- Laws that belong to no one function.
 pub mod Absent
 pub mod Filling
+pub mod Present

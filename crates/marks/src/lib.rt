@@ -4,6 +4,7 @@ ghost use mathlib.Core.Bool.{Bool, true};
 ghost use mathlib.Core.List.{List};
 ghost use mathlib.Core.Logic.{_↔_};
 ghost use Prim.Native.Nat.{_+_, _≤_, _<_};
+ghost use Rattle.parity.specs.Sum.{count};
 ghost use Rattle.parity.specs.Presence.{present};
 ghost use Rattle.marks.specs.Absent.{PresentFrom, Counts};
 ghost use Rattle.marks.specs.InBytes.{OfBytes, AsBytes};
@@ -64,15 +65,27 @@ pub fn find_gaps(places: [bool; 129], n: usize) -> Gaps
     gaps
 }
 
-// Whether a place from n on is present. All of them are looked at, which is faster than to stop at the first.
+// How many places below n are present.
+fn count_present(places: [bool; 129], n: usize) -> u8
+    requires { ⌜ n ≤ 129 ⌝ }
+    ensures { λ r. ⌜ r ≡ count n (present places) ⌝ }
+{
+    let mut c: u8 = 0;
+    for t in 0..n {
+        c += places[t] as u8;
+    }
+    c
+}
+
+// Whether a place from n on is present: then more are present in all than below n. Counted from the first place on, which is faster than to
+// look from place n on.
 pub fn has_strays(places: [bool; 129], n: usize) -> bool
     ensures { λ r. ⌜ (r ≡ true) ↔ PresentFrom n places ⌝ }
 {
-    let mut any = false;
-    for t in n..129 {
-        any = any | places[t];
+    if 129 < n {
+        return false;
     }
-    any
+    count_present(places, 129) != count_present(places, n)
 }
 
 // The marks that 129 bytes give: 1 is present, any other byte is absent.

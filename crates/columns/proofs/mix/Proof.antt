@@ -28,12 +28,12 @@ part-set-first-end c = search needs
 
 set-first-requires : tie.Need-set-first-requires
 set-first-requires c κs =
-    let z = c .before .before .before .before .before .before .before .before .before .before .before in
+    let z = c .before .before .before .before .before .before .before .before .before .before .before .before .before .before in
     let a = z .args in
     let y = z .pre .1 in
-    let e = c .before .before .before .before .before .before .group-but .ensures in (
+    let e = c .before .before .before .before .before .before .before .before .before .group-but .ensures in (
       seed-none (now (a .s)) (a .g .b),
-      half-room (y .sized) (y .bench) .0,
+      omega (arith, c .before .before .before .before .before .before .total .ensures .1, half-room (y .sized) (y .bench) .0),
       omega (arith, y .sized .big),
       omega (arith, y .sized .big),
       omega (arith, e .2),
@@ -48,12 +48,12 @@ add-set-first c = search needs
 
 set-first-requires-2 : tie.Need-set-first-requires-2
 set-first-requires-2 c κs =
-    let z = c .before .before .before .before .before .before .before .before .before .before .before .before .before .before .before .before in
+    let z = c .before .before .before .before .before .before .before .before .before .before .before .before .before .before .before .before .before .before .before in
     let a = z .args in
     let y = z .pre .1 in
-    let e = c .before .before .before .before .before .before .before .before .before .before .before .group-but .ensures in (
-      λ h. omega (arith, c .before .before .before .before .before .before .before .before .before .total .ensures .size, z .pre .0),
-      omega (arith, c .before .before .before .before .set-first .ensures .size, half-room (y .sized) (y .bench) .1),
+    let e = c .before .before .before .before .before .before .before .before .before .before .before .before .before .before .group-but .ensures in (
+      λ h. omega (arith, c .before .before .before .before .before .before .before .before .before .before .before .total .ensures .0 .size, z .pre .0),
+      omega (arith, c .before .before .before .before .before .before .before .before .before .before .before .total .ensures .1, c .before .before .before .before .set-first .ensures .size, half-room (y .sized) (y .bench) .1),
       omega (arith, y .sized .big),
       omega (arith, z .pre .4, y .few),
       omega (arith, e .2),
@@ -65,10 +65,10 @@ set-first-requires-2 c κs =
 
 fill-both-requires : tie.Need-fill-both-requires
 fill-both-requires c κs =
-    let z = c .before .before .before .before .before .before .before .before .before .before .before .before .before .before .before .before .before .before .before .before in
+    let z = c .before .before .before .before .before .before .before .before .before .before .before .before .before .before .before .before .before .before .before .before .before .before .before in
     let y = z .pre .1 in
-    let e = c .before .before .before .before .before .before .before .before .before .before .before .before .before .before .before .group-but .ensures in (
-      omega (arith, c .before .before .before .before .before .before .before .before .set-first .ensures .size, c .before .before .before .set-first2 .ensures .size, y .bench),
+    let e = c .before .before .before .before .before .before .before .before .before .before .before .before .before .before .before .before .before .before .group-but .ensures in (
+      omega (arith, c .before .before .before .before .before .before .before .before .before .before .before .before .before .before .before .total .ensures .1, c .before .before .before .before .before .before .before .before .set-first .ensures .size, c .before .before .before .set-first2 .ensures .size, y .bench),
       omega (arith, z .pre .4, y .few),
       y .sized,
       diagonal-crosses (y .sized) (y .few) (y .stripe) (omega (arith, y .sized .big)) (omega (arith, e .1)) (omega arith),
@@ -82,9 +82,9 @@ same-length-2 c = search needs
 
 returns : tie.Need-returns
 returns c =
-    let z = c .before .before .before .before .before .before .before .before .before .before .before .before .before .before .before .before .before .before .before .before .before .before .before in
+    let z = c .before .before .before .before .before .before .before .before .before .before .before .before .before .before .before .before .before .before .before .before .before .before .before .before .before .before in
     let a = z .args in
-    mixes (a .g .m) (a .k) (a .g .b) (now (a .s)) (now (a .w)) (z .pre .1) (a .u) (a .v) (z .pre .3) (z .pre .4) (z .pre .2) (c .before .before .before .before .before .before .before .before .before .before .before .before .before .before .before .before .before .before .group-but .result) (z .pre .0) (c .before .before .before .before .before .before .before .before .before .before .before .before .before .before .before .before .total .ensures) (c .before .before .before .before .before .before .before .before .before .before .before .set-first .ensures) (c .before .before .before .before .before .before .set-first2 .ensures) (c .before .before .fill-both .ensures)
+    mixes (a .g .m) (a .k) (a .g .b) (now (a .s)) (now (a .w)) (z .pre .1) (a .u) (a .v) (z .pre .3) (z .pre .4) (z .pre .2) (c .before .before .before .before .before .before .before .before .before .before .before .before .before .before .before .before .before .before .before .before .before .group-but .result) (z .pre .0) (c .before .before .before .before .before .before .before .before .before .before .before .before .before .before .before .before .before .before .total .ensures .0) (c .before .before .before .before .before .before .before .before .before .before .before .before .before .before .before .before .before .before .total .ensures .1) (c .before .before .before .before .before .before .before .before .before .before .before .set-first .ensures) (c .before .before .before .before .before .before .set-first2 .ensures) (c .before .before .fill-both .ensures)
 
 pub mix-spec : {M : Type 1} → statement M
 mix-spec =

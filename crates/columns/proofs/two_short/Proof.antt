@@ -1,6 +1,5 @@
 -- `columns::two_short` meets its contract: `any_two` does, which is lent room for a cell.
 use borrow.Author.Needs.{needs}
-use borrow.Author.Needs.{needs}
 use Rattle.columns.proofs.two_short.Statement.{statement}
 use Rattle.columns.proofs.two_short.Tie as tie
 
