@@ -1,6 +1,6 @@
 // How many lines of a stripe break: of its rows, of its diagonals, and of those that tell whether the columns other than one fit a valid
 // stripe. Only local arrays are written, and a column that is left out is not read. Long cells are counted below, line by line. Short
-// cells: whole columns are added one after another, each turned by its rows.
+// cells: whole columns are added one after another, each turned by its rows; rows and diagonals alone are asked for there.
 use lines::Grid;
 ghost use mathlib.Core.Path.{_≡_};
 ghost use mathlib.Core.Bool.{true};
@@ -8,8 +8,7 @@ ghost use Prim.Native.Nat.{_+_, _*_, _-_, _%_, _≤_, _<_};
 ghost use lib.ListN.{length, getD};
 ghost use Rattle.parity.specs.Xor.{_⊕_};
 ghost use Rattle.parity.specs.Stripe.{lane, brokenRows, brokenDiagonals};
-ghost use Rattle.lines.specs.Lines.{real, span, Sized};
-ghost use Rattle.lines.specs.Places.{blank};
+ghost use Rattle.lines.specs.Lines.{span, Sized};
 ghost use Rattle.lines.specs.Rows.{Lined};
 ghost use Rattle.breaks.specs.Breaking.{breaking};
 ghost use Rattle.breaks.specs.But.{lineBut};
@@ -19,39 +18,34 @@ pub struct Counts {
     pub diagonals: usize,
 }
 
-// Each cell r of w gets row r + shift modulo m added, over the data columns but u, and H.
-fn add_rows(w: &mut [u8], s: &[u8], g: Grid, k: usize, u: usize, shift: usize)
-    requires { ⌜ (length (now w) ≡ g .column) × (shift < g .m) × (k ≤ g .m) × Sized (g .m) (g .b) (g .column) × (length (now s) ≡ (k + 2) * g .column) ⌝ }
-    ensures { λ _. ⌜ Lined (g .m - 1) (g .b) 0 (now (w .entry)) (now (w .exit)) (λ r l. getD (now (w .entry)) (0 + (r * g .b + l)) 0 ⊕ (span (g .m) (blank u u (lane (g .m) (g .b) (now (s .entry)) l)) 0 ((r + shift) % g .m) 0 k ⊕ real (g .m) (lane (g .m) (g .b) (now (s .entry)) l) ((r + shift) % g .m) k)) ⌝ }
+// Each cell r of w gets row r added, over the data columns and H.
+fn add_rows(w: &mut [u8], s: &[u8], g: Grid, k: usize)
+    requires { ⌜ (length (now w) ≡ g .column) × (k ≤ g .m) × Sized (g .m) (g .b) (g .column) × (length (now s) ≡ (k + 2) * g .column) ⌝ }
+    ensures { λ _. ⌜ Lined (g .m - 1) (g .b) 0 (now (w .entry)) (now (w .exit)) (λ r l. getD (now (w .entry)) (0 + (r * g .b + l)) 0 ⊕ span (g .m) (lane (g .m) (g .b) (now (s .entry)) l) 0 ((r + 0) % g .m) 0 (k + 1)) ⌝ }
 {
     let rows = g.m - 1;
-    fill::fill_but(w, 0, s, g, 0, shift, rows, 0, k, u, u);
-    fill::fill_lines(w, 0, s, g, 0, shift, rows, k, k + 1);
+    fill::fill_lines(w, 0, s, g, 0, 0, rows, 0, k + 1);
 }
 
-// Each cell r of w gets diagonal r added, over the data columns but u, and D's cell in row r.
-fn add_diagonals(w: &mut [u8], s: &[u8], g: Grid, k: usize, u: usize)
+// Each cell r of w gets diagonal r added, over the data columns, and D's cell in row r.
+fn add_diagonals(w: &mut [u8], s: &[u8], g: Grid, k: usize)
     requires { ⌜ (length (now w) ≡ g .column) × (k ≤ g .m) × Sized (g .m) (g .b) (g .column) × (length (now s) ≡ (k + 2) * g .column) ⌝ }
-    ensures { λ _. ⌜ Lined (g .m - 1) (g .b) 0 (now (w .entry)) (now (w .exit)) (λ r l. getD (now (w .entry)) (0 + (r * g .b + l)) 0 ⊕ (span (g .m) (blank u u (lane (g .m) (g .b) (now (s .entry)) l)) 1 r 0 k ⊕ real (g .m) (lane (g .m) (g .b) (now (s .entry)) l) r (k + 1))) ⌝ }
+    ensures { λ _. ⌜ Lined (g .m - 1) (g .b) 0 (now (w .entry)) (now (w .exit)) (λ r l. getD (now (w .entry)) (0 + (r * g .b + l)) 0 ⊕ (span (g .m) (lane (g .m) (g .b) (now (s .entry)) l) 1 ((r + 0) % g .m) 0 k ⊕ span (g .m) (lane (g .m) (g .b) (now (s .entry)) l) 0 ((r + 0) % g .m) (k + 1) (k + 2))) ⌝ }
 {
     let rows = g.m - 1;
-    fill::fill_but(w, 0, s, g, 1, 0, rows, 0, k, u, u);
+    fill::fill_lines(w, 0, s, g, 1, 0, rows, 0, k);
     fill::fill_lines(w, 0, s, g, 0, 0, rows, k + 1, k + 2);
 }
 
-// Each cell r of w gets line r added.
+// Each cell r of w gets line r added: rows for u past H, else diagonals.
 fn add_lines(w: &mut [u8], s: &[u8], g: Grid, k: usize, u: usize)
-    requires { ⌜ (length (now w) ≡ g .column) × (k ≤ g .m) × Sized (g .m) (g .b) (g .column) × (length (now s) ≡ (k + 2) * g .column) ⌝ }
+    requires { ⌜ (length (now w) ≡ g .column) × (k ≤ g .m) × Sized (g .m) (g .b) (g .column) × (length (now s) ≡ (k + 2) * g .column) × (k ≤ u) ⌝ }
     ensures { λ _. ⌜ Lined (g .m - 1) (g .b) 0 (now (w .entry)) (now (w .exit)) (λ r l. getD (now (w .entry)) (0 + (r * g .b + l)) 0 ⊕ lineBut (g .m) k (lane (g .m) (g .b) (now (s .entry)) l) u r) ⌝ }
 {
     if k < u {
-        add_rows(w, s, g, k, u, 0);
-        return;
-    }
-    add_diagonals(w, s, g, k, u);
-    if u < k {
-        let m = g.m;
-        add_rows(w, s, g, k, u, lines::row_above(m, 0, u));
+        add_rows(w, s, g, k);
+    } else {
+        add_diagonals(w, s, g, k);
     }
 }
 
@@ -68,7 +62,7 @@ fn count_set(w: &[u8], b: usize, n: usize) -> usize
 
 // How many of lines 0 to m - 2 differ from the cell sum, whole columns at a time. w is room for a column.
 fn count_whole(w: &mut [u8], sum: &[u8], s: &[u8], g: Grid, k: usize, u: usize) -> usize
-    requires { ⌜ (length (now w) ≡ g .column) × (length (now sum) ≡ g .b) × (k ≤ g .m) × Sized (g .m) (g .b) (g .column) × (length (now s) ≡ (k + 2) * g .column) ⌝ }
+    requires { ⌜ (length (now w) ≡ g .column) × (length (now sum) ≡ g .b) × (k ≤ g .m) × Sized (g .m) (g .b) (g .column) × (length (now s) ≡ (k + 2) * g .column) × (k ≤ u) ⌝ }
     ensures { λ c. ⌜ c ≡ breaking (g .m - 1) (g .b) (λ l d. getD (now (sum .entry)) l 0 ⊕ lineBut (g .m) k (lane (g .m) (g .b) (now (s .entry)) l) u d) ⌝ }
 {
     let rows = g.m - 1;
@@ -88,7 +82,7 @@ fn count_columns(
     k: usize,
     u: usize,
 ) -> usize
-    requires { ⌜ (length (now w) ≡ g .column) × (length (now sum) ≡ g .b) × (2 + 2 * k ≤ length (now at)) × (k ≤ g .m) × Sized (g .m) (g .b) (g .column) × (length (now s) ≡ (k + 2) * g .column) ⌝ }
+    requires { ⌜ (length (now w) ≡ g .column) × (length (now sum) ≡ g .b) × (2 + 2 * k ≤ length (now at)) × (k ≤ g .m) × Sized (g .m) (g .b) (g .column) × (length (now s) ≡ (k + 2) * g .column) × (k ≤ u) ⌝ }
     ensures { λ r. ⌜ r ≡ breaking (g .m - 1) (g .b) (λ l d. lineBut (g .m) k (lane (g .m) (g .b) (now (s .entry)) l) u (g .m - 1) ⊕ lineBut (g .m) k (lane (g .m) (g .b) (now (s .entry)) l) u d) ⌝ }
 {
     breaks::sum_line(at, sum, s, g, k, u);
@@ -97,7 +91,7 @@ fn count_columns(
 
 // The same where columns are short and few, with little room, since room is cleared before it is used.
 fn count_small(s: &[u8], g: Grid, k: usize, u: usize) -> usize
-    requires { ⌜ (g .b < 128) × (g .column ≤ 1024) × (k ≤ 32) × (k ≤ g .m) × Sized (g .m) (g .b) (g .column) × (length (now s) ≡ (k + 2) * g .column) ⌝ }
+    requires { ⌜ (g .b < 128) × (g .column ≤ 1024) × (k ≤ 32) × (k ≤ g .m) × Sized (g .m) (g .b) (g .column) × (length (now s) ≡ (k + 2) * g .column) × (k ≤ u) ⌝ }
     ensures { λ r. ⌜ r ≡ breaking (g .m - 1) (g .b) (λ l d. lineBut (g .m) k (lane (g .m) (g .b) (now (s .entry)) l) u (g .m - 1) ⊕ lineBut (g .m) k (lane (g .m) (g .b) (now (s .entry)) l) u d) ⌝ }
 {
     let b = g.b;
@@ -110,7 +104,7 @@ fn count_small(s: &[u8], g: Grid, k: usize, u: usize) -> usize
 
 // The same where cells are short, with room for any such column.
 fn count_short(s: &[u8], g: Grid, k: usize, u: usize) -> usize
-    requires { ⌜ (g .b < 128) × (g .column ≤ 16384) × (k ≤ g .m) × Sized (g .m) (g .b) (g .column) × (length (now s) ≡ (k + 2) * g .column) ⌝ }
+    requires { ⌜ (g .b < 128) × (g .column ≤ 16384) × (k ≤ g .m) × Sized (g .m) (g .b) (g .column) × (length (now s) ≡ (k + 2) * g .column) × (k ≤ u) ⌝ }
     ensures { λ r. ⌜ r ≡ breaking (g .m - 1) (g .b) (λ l d. lineBut (g .m) k (lane (g .m) (g .b) (now (s .entry)) l) u (g .m - 1) ⊕ lineBut (g .m) k (lane (g .m) (g .b) (now (s .entry)) l) u d) ⌝ }
 {
     let b = g.b;
@@ -136,7 +130,7 @@ fn is_small(g: Grid, k: usize) -> bool
 
 // How many of lines 0 to m - 2 differ from line m - 1.
 pub fn count_lines(s: &[u8], g: Grid, k: usize, u: usize) -> usize
-    requires { ⌜ (k ≤ g .m) × Sized (g .m) (g .b) (g .column) × (length (now s) ≡ (k + 2) * g .column) ⌝ }
+    requires { ⌜ (k ≤ g .m) × Sized (g .m) (g .b) (g .column) × (length (now s) ≡ (k + 2) * g .column) × (g .b < 128 → k ≤ u) ⌝ }
     ensures { λ r. ⌜ r ≡ breaking (g .m - 1) (g .b) (λ l d. lineBut (g .m) k (lane (g .m) (g .b) (now (s .entry)) l) u (g .m - 1) ⊕ lineBut (g .m) k (lane (g .m) (g .b) (now (s .entry)) l) u d) ⌝ }
 {
     if 128 <= g.b {

@@ -3,14 +3,15 @@ use lines::Grid;
 ghost use mathlib.Core.Path.{_≡_};
 ghost use mathlib.Core.Logic.{_↔_};
 ghost use mathlib.Core.Bool.{true};
-ghost use Prim.Native.Nat.{_+_, _*_, _≤_};
+ghost use Prim.Native.Nat.{_+_, _*_, _≤_, _<_};
 ghost use lib.ListN.{length};
 ghost use Rattle.parity.specs.Candidate.{FitsBut};
 ghost use Rattle.lines.specs.Lines.{Sized};
 
-// Whether the columns other than u fit a valid stripe; a number u that is no column's leaves no column out.
+// Whether the columns other than u fit a valid stripe; a number u that is no column's leaves no column out. Where cells are short no data
+// column may be left out.
 pub fn fits_but(s: &[u8], g: Grid, k: usize, u: usize) -> bool
-    requires { ⌜ Sized (g .m) (g .b) (g .column) × (1 ≤ k) × (k ≤ g .m) × (length (now s) ≡ (k + 2) * g .column) ⌝ }
+    requires { ⌜ Sized (g .m) (g .b) (g .column) × (1 ≤ k) × (k ≤ g .m) × (length (now s) ≡ (k + 2) * g .column) × (g .b < 128 → k ≤ u) ⌝ }
     ensures { λ r. ⌜ (r ≡ true) ↔ FitsBut (g .m) k (g .b) u (now (s .entry)) ⌝ }
 {
     if u < k + 2 {

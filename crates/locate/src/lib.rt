@@ -92,9 +92,9 @@ fn locate_short(s: &[u8], g: Grid, k: usize) -> Suspect
     )
 }
 
-// Column u alone can be the wrong one: that column where the others fit a valid stripe.
+// Column u alone can be the wrong one, and cells are long: that column where the others fit a valid stripe.
 fn test_suspect(s: &[u8], g: Grid, k: usize, u: usize) -> Suspect
-    requires { ⌜ Sized (g .m) (g .b) (g .column) × (1 ≤ k) × (k ≤ g .m) × (length (now s) ≡ (k + 2) * g .column) × Suspects (g .m) k (g .b) (now s) (Column u) ⌝ }
+    requires { ⌜ Sized (g .m) (g .b) (g .column) × (1 ≤ k) × (k ≤ g .m) × (length (now s) ≡ (k + 2) * g .column) × Suspects (g .m) k (g .b) (now s) (Column u) × (128 ≤ g .b) ⌝ }
     ensures { λ r. ⌜ Located (g .m) k (g .b) (now (s .entry)) r ⌝ }
 {
     if fits::fits_but(s, g, k, u) {
@@ -105,7 +105,7 @@ fn test_suspect(s: &[u8], g: Grid, k: usize, u: usize) -> Suspect
 
 // The wrong column, where cells are long.
 fn locate_long(s: &[u8], g: Grid, k: usize) -> Suspect
-    requires { ⌜ Sized (g .m) (g .b) (g .column) × (1 ≤ k) × (k ≤ g .m) × (g .m % 2 ≡ 1) × Prime (g .m) × (length (now s) ≡ (k + 2) * g .column) ⌝ }
+    requires { ⌜ Sized (g .m) (g .b) (g .column) × (1 ≤ k) × (k ≤ g .m) × (g .m % 2 ≡ 1) × Prime (g .m) × (length (now s) ≡ (k + 2) * g .column) × (128 ≤ g .b) ⌝ }
     ensures { λ r. ⌜ Located (g .m) k (g .b) (now (s .entry)) r ⌝ }
 {
     match blame::find_suspect(s, g, k) {

@@ -155,6 +155,7 @@ module _ (m k b : ℕ) (map : Map) (s before : List ℕ) where
       stripe = known .lent .numbers .stripe;
       held = known .lent .held;
       few = few;
+      none = λ e. let q = counts .first .none (omega (arith, counts .count)) in omega (arith, shape .few, shape .value .most);
       one = λ e. counts .first .found (omega (arith, counts .count)) .0;
       two = order (k + 2) (map .places) gaps counts;
     }

@@ -19,6 +19,7 @@ pub record Gapped (g : Grid) (k : ℕ) (gaps : Gaps) (s bench : List ℕ) : Type
   pub stripe : length s ≡ stripeLength (g .m) k (g .b)
   pub held : length bench ≡ benchLength (g .m) (g .b)
   pub few : gaps .count ≤ 2
+  pub none : gaps .count ≡ 0 → k ≤ gaps .first
   pub one : gaps .count ≡ 1 → gaps .first < k + 2
   pub two : gaps .count ≡ 2 → (gaps .first < gaps .second) × (gaps .second < k + 2)
 

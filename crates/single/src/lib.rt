@@ -68,19 +68,28 @@ fn try_short(s: &[u8], w: &mut [u8], g: Grid, k: usize, u: usize) -> bool
     try_large(s, w, g, k, u)
 }
 
-// Column u. Where cells are long, or u is D, the other columns are tested line by line, and then column u is summed to the bench.
-pub fn restore(s: &[u8], w: &mut [u8], g: Grid, k: usize, u: usize) -> bool
-    requires { ⌜ (u < k + 2) × Alone g k (now s) (now w) ⌝ }
+// Column u, where cells are long, or D: the other columns are tested line by line, and then column u is summed to the bench.
+fn try_lines(s: &[u8], w: &mut [u8], g: Grid, k: usize, u: usize) -> bool
+    requires { ⌜ (g .b < 128 → k ≤ u) × (u < k + 2) × Alone g k (now s) (now w) ⌝ }
     ensures { λ r. ⌜ Tried (g .m) k (g .b) u (now (s .entry)) (now (w .entry)) (now (w .exit)) r ⌝ }
 {
-    if g.b < 128 {
-        if u <= k {
-            return try_short(s, w, g, k, u);
-        }
-    }
     if !fits::fits_but(s, g, k, u) {
         return false;
     }
     columns::restore_one(s, w, g, k, u);
     true
+}
+
+// Column u.
+pub fn restore(s: &[u8], w: &mut [u8], g: Grid, k: usize, u: usize) -> bool
+    requires { ⌜ (u < k + 2) × Alone g k (now s) (now w) ⌝ }
+    ensures { λ r. ⌜ Tried (g .m) k (g .b) u (now (s .entry)) (now (w .entry)) (now (w .exit)) r ⌝ }
+{
+    if 128 <= g.b {
+        return try_lines(s, w, g, k, u);
+    }
+    if k < u {
+        return try_lines(s, w, g, k, u);
+    }
+    try_short(s, w, g, k, u)
 }

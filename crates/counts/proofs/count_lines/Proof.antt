@@ -19,7 +19,7 @@ count-small-requires : tie.Need-count-small-requires
 count-small-requires c κs =
     let z = c .before .before .before .before .before in
     let small = c .before .is-small .ensures (c .if2 .taken) in
-    (omega (arith, c .before .before .if1 .left), small .0, small .1, z .pre .0, z .pre .1, z .pre .2)
+    (omega (arith, c .before .before .if1 .left), small .0, small .1, z .pre .0, z .pre .1, z .pre .2, z .pre .3 (omega (arith, c .before .before .if1 .left)))
 
 returns-2 : tie.Need-returns-2
 returns-2 c = search needs
@@ -28,7 +28,7 @@ count-short-requires : tie.Need-count-short-requires
 count-short-requires c κs =
     let z = c .before .before .before .before .before in
     let short : z .args .g .b < 128 = omega (arith, c .before .before .if1 .left) in
-    (short, short-column (z .pre .1) short, z .pre .0, z .pre .1, z .pre .2)
+    (short, short-column (z .pre .1) short, z .pre .0, z .pre .1, z .pre .2, z .pre .3 short)
 
 returns-3 : tie.Need-returns-3
 returns-3 c = search needs

@@ -22,7 +22,7 @@ test-suspect-requires : tie.Need-test-suspect-requires
 test-suspect-requires c κs =
     let z = c .before .before .before .before .before in
     let a = z .args in
-    (z .pre .0, z .pre .1, z .pre .2, z .pre .5, subst (Suspects (a .g .m) (a .k) (a .g .b) (now (a .s))) (c .before .u .given .1) (c .before .before .before .find-suspect .ensures))
+    (z .pre .0, z .pre .1, z .pre .2, z .pre .5, subst (Suspects (a .g .m) (a .k) (a .g .b) (now (a .s))) (c .before .u .given .1) (c .before .before .before .find-suspect .ensures), z .pre .6)
 
 returns : tie.Need-returns
 returns c =

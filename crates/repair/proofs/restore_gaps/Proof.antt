@@ -51,7 +51,8 @@ returns-2 c =
 fits-but-requires : tie.Need-fits-but-requires
 fits-but-requires c κs =
     let p = c .before .before .before .before .pre in
-    (sized (p .shape) (p .column), p .shape .real, p .shape .few, gapped-length p)
+    let none = none-left (p .few) (c .before .if1 .left) (c .if2 .left) in
+    (sized (p .shape) (p .column), p .shape .real, p .shape .few, gapped-length p, λ _. p .none none)
 
 returns-3 : tie.Need-returns-3
 returns-3 c =
