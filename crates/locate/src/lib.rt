@@ -50,6 +50,28 @@ fn locate_whole(
 
 // The same where columns are short, with little room, since room is cleared before it is used.
 fn locate_small(s: &[u8], g: Grid, k: usize) -> Suspect
+    requires { ⌜ (g .b < 128) × (g .column ≤ 256) × Sized (g .m) (g .b) (g .column) × (k ≤ g .m) × (g .m % 2 ≡ 1) × Prime (g .m) × (length (now s) ≡ (k + 2) * g .column) ⌝ }
+    ensures { λ r. ⌜ Located (g .m) k (g .b) (now (s .entry)) r ⌝ }
+{
+    let b = g.b;
+    let c = g.column;
+    let mut sum = [0u8; 128];
+    let mut x = [0u8; 256];
+    let mut y = [0u8; 256];
+    let mut z = [0u8; 256];
+    locate_whole(
+        &mut x[0..c],
+        &mut y[0..c],
+        &mut z[0..c],
+        &mut sum[0..b],
+        s,
+        g,
+        k,
+    )
+}
+
+// The same where columns are of middle length.
+fn locate_middle(s: &[u8], g: Grid, k: usize) -> Suspect
     requires { ⌜ (g .b < 128) × (g .column ≤ 1024) × Sized (g .m) (g .b) (g .column) × (k ≤ g .m) × (g .m % 2 ≡ 1) × Prime (g .m) × (length (now s) ≡ (k + 2) * g .column) ⌝ }
     ensures { λ r. ⌜ Located (g .m) k (g .b) (now (s .entry)) r ⌝ }
 {
@@ -123,8 +145,11 @@ pub fn locate(s: &[u8], g: Grid, k: usize) -> Suspect
     if 128 <= g.b {
         return locate_long(s, g, k);
     }
-    if g.column <= 1024 {
+    if g.column <= 256 {
         return locate_small(s, g, k);
+    }
+    if g.column <= 1024 {
+        return locate_middle(s, g, k);
     }
     locate_short(s, g, k)
 }

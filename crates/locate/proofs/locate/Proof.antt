@@ -18,15 +18,21 @@ locate-small-requires c κs = search needs
 returns-2 : tie.Need-returns-2
 returns-2 c = search needs
 
-locate-short-requires : tie.Need-locate-short-requires
-locate-short-requires c κs =
-    let z = c .before .before .before .before .before in
-    let p = z .pre in
-    let short : z .args .g .b < 128 = omega (arith, c .before .before .if1 .left) in
-    (short, short-column (p .0) short, p .0, p .2, p .3, p .4, p .5)
+locate-middle-requires : tie.Need-locate-middle-requires
+locate-middle-requires c κs = search needs
 
 returns-3 : tie.Need-returns-3
 returns-3 c = search needs
+
+locate-short-requires : tie.Need-locate-short-requires
+locate-short-requires c κs =
+    let z = c .before .before .before .before .before .before .before in
+    let p = z .pre in
+    let short : z .args .g .b < 128 = omega (arith, c .before .before .before .before .if1 .left) in
+    (short, short-column (p .0) short, p .0, p .2, p .3, p .4, p .5)
+
+returns-4 : tie.Need-returns-4
+returns-4 c = search needs
 
 pub locate-spec : {M : Type 1} → statement M
 locate-spec =
@@ -36,5 +42,7 @@ locate-spec =
     returns
     locate-small-requires
     returns-2
+    locate-middle-requires
+    returns-3
     locate-short-requires
-    returns-3)
+    returns-4)
