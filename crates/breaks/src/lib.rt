@@ -163,7 +163,7 @@ fn count_summed(at: &mut [usize], sum: &mut [u8], s: &[u8], g: Grid, k: usize, u
 }
 
 // The same where there are few columns, with room of its own: little where a cell is short, since room is cleared before it is used.
-fn few_short(s: &[u8], g: Grid, k: usize, u: usize) -> usize
+fn few_middle(s: &[u8], g: Grid, k: usize, u: usize) -> usize
     requires { ⌜ (g .b ≤ 512) × (k ≤ 32) × (k ≤ g .m) × Sized (g .m) (g .b) (g .column) × (length (now s) ≡ (k + 2) * g .column) × (128 ≤ g .b) ⌝ }
     ensures { λ r. ⌜ r ≡ breaking (g .m - 1) (g .b) (λ l d. lineBut (g .m) k (lane (g .m) (g .b) (now (s .entry)) l) u (g .m - 1) ⊕ lineBut (g .m) k (lane (g .m) (g .b) (now (s .entry)) l) u d) ⌝ }
 {
@@ -193,7 +193,7 @@ fn few_rows(s: &[u8], g: Grid, k: usize, u: usize) -> usize
     count_straight(&mut at, &s[0..0], s, g, k, u)
 }
 
-// The same where there are few columns.
+// How many of lines 0 to m - 2 differ from line m - 1, where there are few columns.
 fn count_few(s: &[u8], g: Grid, k: usize, u: usize) -> usize
     requires { ⌜ (k ≤ 32) × (k ≤ g .m) × Sized (g .m) (g .b) (g .column) × (length (now s) ≡ (k + 2) * g .column) × (128 ≤ g .b) ⌝ }
     ensures { λ r. ⌜ r ≡ breaking (g .m - 1) (g .b) (λ l d. lineBut (g .m) k (lane (g .m) (g .b) (now (s .entry)) l) u (g .m - 1) ⊕ lineBut (g .m) k (lane (g .m) (g .b) (now (s .entry)) l) u d) ⌝ }
@@ -202,7 +202,7 @@ fn count_few(s: &[u8], g: Grid, k: usize, u: usize) -> usize
         return few_rows(s, g, k, u);
     }
     if g.b <= 512 {
-        return few_short(s, g, k, u);
+        return few_middle(s, g, k, u);
     }
     few_long(s, g, k, u)
 }

@@ -1,5 +1,5 @@
 // Absent columns of a stripe s, one or two, restored to the halves of the bench w, a buffer of two columns. An absent column is never read:
-// every sum leaves out columns u and v, of which 129, which no stripe has, stands for none. A row with H's cell is zero, and a diagonal with
+// every sum leaves out columns u and v, of which 129, which no stripe has, stands for none; H and D are summed whole only where both are there. A row with H's cell is zero, and a diagonal with
 // D's cell is S: what is left of them is what the absent columns have there. Row m - 1 is imaginary, and zero.
 use lines::Grid;
 ghost use mathlib.Core.Path.{_≡_};
@@ -250,7 +250,7 @@ fn two_small(s: &[u8], w: &mut [u8], g: Grid, k: usize, u: usize, v: usize)
 }
 
 // The same, with more room.
-fn two_short(s: &[u8], w: &mut [u8], g: Grid, k: usize, u: usize, v: usize)
+fn two_middle(s: &[u8], w: &mut [u8], g: Grid, k: usize, u: usize, v: usize)
     requires { ⌜ (g .b ≤ 512) × Ready (g .m) k (g .b) (g .column) (length (now s)) (length (now w)) × (g .m % 2 ≡ 1) × (u < v) × (v < k + 2) × (v < k → Reaches (g .m) (v - u)) ⌝ }
     ensures { λ _. ⌜ TwoRestored (g .m) k (g .b) u v (now (s .entry)) (now (w .entry)) (now (w .exit)) ⌝ }
 {
@@ -277,7 +277,7 @@ pub fn restore_two(s: &[u8], w: &mut [u8], g: Grid, k: usize, u: usize, v: usize
     if g.b <= 128 {
         two_small(s, w, g, k, u, v);
     } else if g.b <= 512 {
-        two_short(s, w, g, k, u, v);
+        two_middle(s, w, g, k, u, v);
     } else {
         two_long(s, w, g, k, u, v);
     }

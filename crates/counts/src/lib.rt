@@ -1,6 +1,6 @@
 // How many lines of a stripe break: of its rows, of its diagonals, and of those that tell whether the columns other than one fit a valid
 // stripe. Only local arrays are written, and a column that is left out is not read. Long cells are counted below, line by line. Short
-// cells: whole columns are added one after another, each turned by its rows; rows and diagonals alone are asked for there.
+// cells: whole columns are added, of diagonals each turned by its rows, of rows several at a time; no other lines are asked for there.
 use lines::Grid;
 ghost use mathlib.Core.Path.{_≡_};
 ghost use mathlib.Core.Bool.{true};

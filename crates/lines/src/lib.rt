@@ -45,7 +45,7 @@ pub fn add_cell(acc: &mut [u8], s: &[u8], g: Grid, t: usize, r: usize, j: usize)
 }
 
 // Adds the lanes from j on of line i, over the columns from t0 up to t1, to acc.
-pub fn add_span(
+fn add_span(
     acc: &mut [u8],
     s: &[u8],
     g: Grid,

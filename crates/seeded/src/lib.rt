@@ -183,8 +183,6 @@ pub fn set_first(
 {
     if 128 <= g.b {
         first_by_cells(w, at, seed, s, g, slant, shift, rows, h, n, u, v);
-    } else if rows == 1 {
-        first_by_cells(w, at, seed, s, g, slant, shift, rows, h, n, u, v);
     } else {
         first_by_columns(w, at, seed, s, g, slant, shift, rows, h, n, u, v);
     }
@@ -213,7 +211,7 @@ fn set_by_groups(
     fill::fill_but(w, at, s, g, slant, shift, rows, e, n, u, v);
 }
 
-// The same, in the way that suits the cells.
+// The same, in the way that suits the cells; one cell alone is set by its places.
 pub fn set_ended(
     w: &mut [u8],
     at: usize,

@@ -1,5 +1,5 @@
 // One absent column u: whether the other columns fit a valid stripe, and if so column u restored to the first half of the bench w. The test
-// comes first: where they do not fit, no byte is written.
+// comes first: where they do not fit, no byte of w is written.
 use lines::Grid;
 ghost use mathlib.Core.Path.{_≡_};
 ghost use Prim.Native.Nat.{_+_, _*_, _≤_, _<_};
@@ -68,7 +68,8 @@ fn try_short(s: &[u8], w: &mut [u8], g: Grid, k: usize, u: usize) -> bool
     try_large(s, w, g, k, u)
 }
 
-// Column u, where cells are long, or D: the other columns are tested line by line, and then column u is summed to the bench.
+// Column u, where cells are long, or D: the lines that tell whether the other columns fit are counted, and then column u is summed to the
+// bench.
 fn try_lines(s: &[u8], w: &mut [u8], g: Grid, k: usize, u: usize) -> bool
     requires { ⌜ (g .b < 128 → k ≤ u) × (u < k + 2) × Alone g k (now s) (now w) ⌝ }
     ensures { λ r. ⌜ Tried (g .m) k (g .b) u (now (s .entry)) (now (w .entry)) (now (w .exit)) r ⌝ }

@@ -1,7 +1,7 @@
--- `columns::two_short` meets its contract: `any_two` does, which is lent room for a cell.
+-- `columns::two_middle` meets its contract: `any_two` does, which is lent room for a cell.
 use borrow.Author.Needs.{needs}
-use Rattle.columns.proofs.two_short.Statement.{statement}
-use Rattle.columns.proofs.two_short.Tie as tie
+use Rattle.columns.proofs.two_middle.Statement.{statement}
+use Rattle.columns.proofs.two_middle.Tie as tie
 
 sub-any-two : tie.Need-sub-any-two
 sub-any-two c = search needs
@@ -23,7 +23,7 @@ same-length c = search needs
 returns : tie.Need-returns
 returns c = search needs
 
-pub two-short-spec : {M : Type 1} → statement M
-two-short-spec =
+pub two-middle-spec : {M : Type 1} → statement M
+two-middle-spec =
     tie.close
     (tie.spec sub-any-two part-sum-start part-sum-end any-two-requires same-length returns)
