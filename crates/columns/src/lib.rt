@@ -1,6 +1,7 @@
 // Absent columns of a stripe s, one or two, restored to the halves of the bench w, a buffer of two columns. An absent column is never read:
-// every sum leaves out columns u and v, of which 129, which no stripe has, stands for none; H and D are summed whole only where both are there. A row with H's cell is zero, and a diagonal with
-// D's cell is S: what is left of them is what the absent columns have there. Row m - 1 is imaginary, and zero.
+// every sum leaves out columns u and v, of which 129, which no stripe has, stands for none; H and D are summed whole only where both are
+// there. A row with H's cell is zero, and a diagonal with D's cell is S: what is left of them is what the absent columns have there. Row
+// m - 1 is imaginary, and zero.
 use lines::Grid;
 ghost use mathlib.Core.Path.{_≡_};
 ghost use Prim.Native.Nat.{_+_, _-_, _*_, _%_, _≤_, _<_};
