@@ -1,5 +1,6 @@
 -- A column taken for a row: a stripe of one row, whose columns are the column's cells.
 --   row-sized, row-crosses-all   the numbers of that stripe
+--   at-row                       where the bytes of a column stand
 --   column-sum                   the sum of that row is the sum of the column's cells
 --   two-sum                      the same of two columns, one after the other
 --   twice, column-twice          half of a column's cells
@@ -47,8 +48,7 @@ module _ {m b c : ℕ} (z : Sized m b c) where
   pub row-crosses-all : {n q : ℕ} → n ≤ 129 → n * b ≤ q → Crosses 2 b q 0 0 0 n
   row-crosses-all most room = record { slant = omega arith; inside = omega arith; order = omega arith; within = omega arith; most = most; columns = room }
 
-  -- where the bytes of a column stand
-  at-row : (s : List ℕ) (t l i : ℕ) → lane m b s l i t ≡ getD s (t * c + (i * b + l)) 0
+  pub at-row : (s : List ℕ) (t l i : ℕ) → lane m b s l i t ≡ getD s (t * c + (i * b + l)) 0
   unfolding byte
   at-row s t l i = ap (λ (n : ℕ). getD s (t * n + (i * b + l)) 0) (sym (z .column))
 

@@ -135,7 +135,7 @@ fn total_short(x: &mut [u8], w: &mut [u8], s: &[u8], g: Grid, k: usize)
     fill::fill_cell(x, &s[0..0], true, &w[c..c + half], row, 0, 0, 0, n, 0);
 }
 
-// The same, in the way that suits the shape. Of w nothing but the second half changes.
+// The same, in the way that suits the shape. w is room, and stays as long as it is.
 fn total(x: &mut [u8], w: &mut [u8], s: &[u8], g: Grid, k: usize)
     requires { ⌜ (length (now x) ≡ g .b) × (g .m % 2 ≡ 1) × Ready (g .m) k (g .b) (g .column) (length (now s)) (length (now w)) ⌝ }
     ensures { λ _. ⌜ Put (now (x .entry)) (now (x .exit)) 0 (length (now (x .entry))) (λ l. sum (g .m - 1) (λ i. span (g .m) (lane (g .m) (g .b) (now (s .entry)) l) 0 i k (k + 2))) × (length (now (w .exit)) ≡ length (now (w .entry))) ⌝ }

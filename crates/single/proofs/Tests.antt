@@ -20,6 +20,8 @@ use Rattle.parity.proofs.Fits.{rewritten, rewritten-other, fits-valid, valid-fi
 use Rattle.cells.specs.Runs.{Put}
 use Rattle.cells.proofs.Parts.{by-order}
 use Rattle.fill.proofs.Rows.{first-at, second-at, row-room}
+use Rattle.lines.proofs.Whole.{sized}
+use Rattle.columns.proofs.Totals.{at-row}
 use Rattle.columns.specs.Columns.{OneRestored, TwoRestored}
 
 pub whole-stripe : (m k b : ℕ) {c : ℕ} → c ≡ columnLength m b → (k + 2) * c ≡ stripeLength m k b
@@ -49,8 +51,7 @@ module _ (m k b : ℕ) {c : ℕ} (column : c ≡ columnLength m b) (h : Shape m 
 
   -- where the bytes of D stand
   d-at : (l i : ℕ) → byte m b s l i (k + 1) ≡ getD s ((k + 1) * c + (i * b + l)) 0
-  unfolding byte
-  d-at l i = ap (λ (n : ℕ). getD s ((k + 1) * n + (i * b + l)) 0) (sym column)
+  d-at = at-row (sized h column) s (k + 1)
 
   module _ (z : List ℕ) (q : Put y z c c (λ l. getD y (c + l) 0 ⊕ getD s ((k + 1) * c + l) 0)) where
     pub fits : ((p : ℕ) → p < c → getD z (c + p) 0 ≡ 0) → FitsBut m k b u s
