@@ -37,12 +37,13 @@ const ACCEPTED: [usize; 30] = [
     127,
 ];
 
-// Whether m is one of the thirty accepted values.
+// Whether m is one of the thirty accepted values. The table is taken out of the loop, where it would be made anew for each look.
 pub fn is_accepted(m: usize) -> bool
     ensures { λ r. ⌜ r ≡ member m accepted ⌝ }
 {
+    let accepted = ACCEPTED;
     for i in 0..30 {
-        if ACCEPTED[i] == m {
+        if accepted[i] == m {
             return true;
         }
     }

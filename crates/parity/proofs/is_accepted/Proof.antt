@@ -23,10 +23,10 @@ module _ (m : ℕ) (xs : List ℕ) (i : ℕ) (l : i < length xs) where
   member-step f = rw (add-one, drop-cons xs i 0, ne-eqb (getD xs i 0) m)
 
 abbrev Inv-loop : tie.InvT-loop
-Inv-loop m i₀ i = (i ≤ 30) × (member m accepted ≡ member m (drop i accepted))
+Inv-loop m table i₀ i = (i ≤ 30) × (member m accepted ≡ member m (drop i accepted))
 
 abbrev μ-loop : tie.MeasureT-loop
-μ-loop m i₀ i = 30 - i
+μ-loop m table i₀ i = 30 - i
 
 loop-holds : tie.Need-loop-holds Inv-loop μ-loop
 loop-holds c = (search needs, refl)
