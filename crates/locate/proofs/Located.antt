@@ -1,6 +1,7 @@
 -- What the amounts of all lanes say of the stripe.
 --   summed                    what a column differs by from a line, when the two were summed
 --   rows-are, diagonals-are   the amounts of lane l, as they are summed
+--   amounts-of                the same, in the rows that are there
 --   sound                     where none is other than zero, the stripe is sound
 --   located                   a column that is confirmed, and none, where lane l breaks
 --   sure, nobody              a suspect that the other columns fit without, and one that they do not
@@ -32,7 +33,7 @@ use Rattle.blame.specs.declared.Suspect.{Suspect}
 use Rattle.blame.specs.declared.Suspect.the-variants.{Nothing, Column, Nobody}
 use Rattle.blame.proofs.Fitting.{fit-holds, holds-fit}
 use Rattle.amounts.specs.Amounts.{rowsAt, diagonalsAt, FitAll, Either, Confirms}
-use Rattle.locate.specs.Locate.{Located}
+use Rattle.locate.specs.Locate.{AmountsOf, Located}
 
 pub summed : (m b : ℕ) (s seed : List ℕ) (e k t : ℕ) {x y z : List ℕ}
     → Lined (m - 1) b 0 x y (λ i l. getD seed l 0 ⊕ span m (lane m b s l) e ((i + 0) % m) 0 k)
@@ -66,6 +67,9 @@ module _ (m k b : ℕ) (few : k ≤ m) (odd : m % 2 ≡ 1) (prime : Prime m) (s 
   breaks l hl e v = e .there hl
       (λ i hi. sym (real-in m (lane m b x l) i 0 hi) ∙ rows l i hl (omega arith) ∙ row-amount m k (lane m b s l) i hi ∙ hold-h m k (lane m b s l) v i hi)
       (λ i hi. diagonals l i hl hi ∙ hold-d m k (lane m b s l) v i hi)
+
+  pub amounts-of : AmountsOf m k b s x y
+  amounts-of = record { rows = λ l i hl hi. sym (real-in m (lane m b x l) i 0 hi) ∙ rows l i hl (omega arith) ∙ row-amount m k (lane m b s l) i hi; diagonals = diagonals }
 
   pub sound : (r : ℕ) → b ≤ r → Either m b x y r → Sound m k b s
   sound r c e l hl = amounts-hold m k (lane m b s l)

@@ -1,6 +1,6 @@
-// Which column of a stripe is the wrong one, if one alone is. One lane that breaks tells which column alone can be it; then every lane is
-// asked. Long cells: the columns other than that one are tested. Short cells: what the rows and the diagonals break by is summed for all
-// lanes at once, whole columns at a time, and the one is held to the other.
+// Which column of a stripe is the wrong one, if one alone is: Nothing where the stripe is valid, Nobody where no column alone is. One lane
+// that breaks tells which column alone can be it; then every lane is asked. Long cells: the columns other than that one are tested. Short
+// cells: what the rows and the diagonals break by is summed for all lanes at once, whole columns at a time, and the one is held to the other.
 use blame::Suspect;
 use lines::Grid;
 ghost use mathlib.Core.Path.{_≡_};
@@ -12,7 +12,7 @@ ghost use Rattle.lines.specs.Lines.{rest, Sized};
 ghost use Rattle.lines.specs.Rows.{Lined};
 ghost use Rattle.blame.specs.Blame.{Suspects};
 ghost use Rattle.blame.specs.declared.Suspect.the-variants.{Column};
-ghost use Rattle.locate.specs.Locate.{Located};
+ghost use Rattle.locate.specs.Locate.{AmountsOf, Located};
 
 // x becomes, cell for cell, what column t differs by from the cell seed plus the lines of its rows over the first k columns.
 fn put_amounts(x: &mut [u8], seed: &[u8], s: &[u8], g: Grid, slant: usize, k: usize, t: usize)
@@ -24,8 +24,9 @@ fn put_amounts(x: &mut [u8], seed: &[u8], s: &[u8], g: Grid, slant: usize, k: us
     fill::fill_lines(x, 0, s, g, 0, 0, rows, t, t + 1);
 }
 
-// The wrong column, whole columns at a time. x, y and z are room for columns, sum for a cell.
-fn locate_whole(
+// The wrong column, where cells are short. x becomes what the rows break by, and y what the diagonals do. x, y and z are room for columns,
+// and sum for a cell.
+pub fn locate_short(
     x: &mut [u8],
     y: &mut [u8],
     z: &mut [u8],
@@ -35,7 +36,7 @@ fn locate_whole(
     k: usize,
 ) -> Suspect
     requires { ⌜ (length (now x) ≡ g .column) × (length (now y) ≡ g .column) × (length (now z) ≡ g .column) × (length (now sum) ≡ g .b) × Sized (g .m) (g .b) (g .column) × (k ≤ g .m) × (g .m % 2 ≡ 1) × Prime (g .m) × (length (now s) ≡ (k + 2) * g .column) ⌝ }
-    ensures { λ r. ⌜ Located (g .m) k (g .b) (now (s .entry)) r ⌝ }
+    ensures { λ r. ⌜ Located (g .m) k (g .b) (now (s .entry)) r × AmountsOf (g .m) k (g .b) (now (s .entry)) (now (x .exit)) (now (y .exit)) × (length (now (x .exit)) ≡ g .column) × (length (now (y .exit)) ≡ g .column) ⌝ }
 {
     let m = g.m;
     fill::fill_cell(sum, &s[0..0], true, s, g, 1, m - 1, 0, k, 0);
@@ -46,72 +47,6 @@ fn locate_whole(
         return amounts::judge(z, x, y, g, k, l);
     }
     Suspect::Nothing
-}
-
-// The same where columns are short, with little room, since room is cleared before it is used.
-fn locate_small(s: &[u8], g: Grid, k: usize) -> Suspect
-    requires { ⌜ (g .b < 128) × (g .column ≤ 256) × Sized (g .m) (g .b) (g .column) × (k ≤ g .m) × (g .m % 2 ≡ 1) × Prime (g .m) × (length (now s) ≡ (k + 2) * g .column) ⌝ }
-    ensures { λ r. ⌜ Located (g .m) k (g .b) (now (s .entry)) r ⌝ }
-{
-    let b = g.b;
-    let c = g.column;
-    let mut sum = [0u8; 128];
-    let mut x = [0u8; 256];
-    let mut y = [0u8; 256];
-    let mut z = [0u8; 256];
-    locate_whole(
-        &mut x[0..c],
-        &mut y[0..c],
-        &mut z[0..c],
-        &mut sum[0..b],
-        s,
-        g,
-        k,
-    )
-}
-
-// The same where columns are of middle length.
-fn locate_middle(s: &[u8], g: Grid, k: usize) -> Suspect
-    requires { ⌜ (g .b < 128) × (g .column ≤ 1024) × Sized (g .m) (g .b) (g .column) × (k ≤ g .m) × (g .m % 2 ≡ 1) × Prime (g .m) × (length (now s) ≡ (k + 2) * g .column) ⌝ }
-    ensures { λ r. ⌜ Located (g .m) k (g .b) (now (s .entry)) r ⌝ }
-{
-    let b = g.b;
-    let c = g.column;
-    let mut sum = [0u8; 128];
-    let mut x = [0u8; 1024];
-    let mut y = [0u8; 1024];
-    let mut z = [0u8; 1024];
-    locate_whole(
-        &mut x[0..c],
-        &mut y[0..c],
-        &mut z[0..c],
-        &mut sum[0..b],
-        s,
-        g,
-        k,
-    )
-}
-
-// The same where cells are short, with room for any such column.
-fn locate_short(s: &[u8], g: Grid, k: usize) -> Suspect
-    requires { ⌜ (g .b < 128) × (g .column ≤ 16384) × Sized (g .m) (g .b) (g .column) × (k ≤ g .m) × (g .m % 2 ≡ 1) × Prime (g .m) × (length (now s) ≡ (k + 2) * g .column) ⌝ }
-    ensures { λ r. ⌜ Located (g .m) k (g .b) (now (s .entry)) r ⌝ }
-{
-    let b = g.b;
-    let c = g.column;
-    let mut sum = [0u8; 128];
-    let mut x = [0u8; 16384];
-    let mut y = [0u8; 16384];
-    let mut z = [0u8; 16384];
-    locate_whole(
-        &mut x[0..c],
-        &mut y[0..c],
-        &mut z[0..c],
-        &mut sum[0..b],
-        s,
-        g,
-        k,
-    )
 }
 
 // Column u alone can be the wrong one, and cells are long: that column where the others fit a valid stripe.
@@ -126,7 +61,7 @@ fn test_suspect(s: &[u8], g: Grid, k: usize, u: usize) -> Suspect
 }
 
 // The wrong column, where cells are long.
-fn locate_long(s: &[u8], g: Grid, k: usize) -> Suspect
+pub fn locate_long(s: &[u8], g: Grid, k: usize) -> Suspect
     requires { ⌜ Sized (g .m) (g .b) (g .column) × (1 ≤ k) × (k ≤ g .m) × (g .m % 2 ≡ 1) × Prime (g .m) × (length (now s) ≡ (k + 2) * g .column) × (128 ≤ g .b) ⌝ }
     ensures { λ r. ⌜ Located (g .m) k (g .b) (now (s .entry)) r ⌝ }
 {
@@ -135,21 +70,4 @@ fn locate_long(s: &[u8], g: Grid, k: usize) -> Suspect
         Suspect::Nobody => Suspect::Nobody,
         Suspect::Column(u) => test_suspect(s, g, k, u),
     }
-}
-
-// Which column of the stripe is the wrong one: Nothing where the stripe is valid, Nobody where no column alone is.
-pub fn locate(s: &[u8], g: Grid, k: usize) -> Suspect
-    requires { ⌜ Sized (g .m) (g .b) (g .column) × (1 ≤ k) × (k ≤ g .m) × (g .m % 2 ≡ 1) × Prime (g .m) × (length (now s) ≡ (k + 2) * g .column) ⌝ }
-    ensures { λ r. ⌜ Located (g .m) k (g .b) (now (s .entry)) r ⌝ }
-{
-    if 128 <= g.b {
-        return locate_long(s, g, k);
-    }
-    if g.column <= 256 {
-        return locate_small(s, g, k);
-    }
-    if g.column <= 1024 {
-        return locate_middle(s, g, k);
-    }
-    locate_short(s, g, k)
 }

@@ -26,7 +26,7 @@ use Rattle.parity.proofs.Theorems.{few-differ}
 use Rattle.parity.proofs.Fits.{rewritten, rewritten-byte, rewritten-other, fits-valid, valid-fits}
 use Rattle.blame.specs.declared.Suspect.{Suspect}
 use Rattle.blame.specs.declared.Suspect.the-variants.{Nothing, Column, Nobody}
-use Rattle.repair.specs.Patches.{Patches}
+use Rattle.amend.specs.Patches.{Patches}
 use Rattle.inputs.specs.Refusals.{Verdict, Gives}
 use Rattle.inputs.specs.Shapes.{stripeRules}
 use Rattle.rebuild.specs.Mends.{blameRules, mendRules, Mends, mendedBy}

@@ -34,5 +34,5 @@ pub fn mend(m: usize, k: usize, b: usize, stripe: &mut [u8]) -> Mended
     let Judged::Good { column } = judged else {
         return Mended::Refused(judged.refusal());
     };
-    told(repair::mend_suspect(Grid { m, b, column }, k, stripe))
+    told(amend::amend(stripe, Grid { m, b, column }, k))
 }

@@ -1,6 +1,6 @@
 -- What the loops below ask for.
 --   columns-long                the bytes of a stripe, by the bytes of a column
---   gapped-.., blamed-length    what is asked, of what is known
+--   gapped-..                   what is asked, of what is known
 use mathlib.Core.Path.{_≡_, sym, ap, _∙_}
 use mathlib.Core.List.{List}
 use Prim.Native.Nat.{ℕ, _+_, _-_, _*_, _<_}
@@ -14,7 +14,6 @@ use Rattle.walk.proofs.Callers.{reaches}
 use Rattle.columns.specs.Columns.{Ready}
 use Rattle.marks.specs.declared.Gaps.{Gaps}
 use Rattle.repair.specs.Fills.{Gapped}
-use Rattle.repair.specs.Patches.{Blamed}
 
 columns-long : (m k b c n : ℕ) → n ≡ stripeLength m k b → c ≡ columnLength m b → n ≡ (k + 2) * c
 unfolding stripeLength
@@ -38,6 +37,3 @@ module _ {g : Grid} {k : ℕ} {gaps : Gaps} {s bench : List ℕ} (p : Gapped g k
   gapped-reaches e l =
       let (order, _) = p .two e in
       reaches (p .shape .value .prime) (omega arith) (omega (arith, p .shape .few))
-
-pub blamed-length : {g : Grid} {k : ℕ} {s : List ℕ} → Blamed g k s → length s ≡ (k + 2) * g .column
-blamed-length {g} {k} {s} p = columns-long (g .m) k (g .b) (g .column) (length s) (p .stripe) (p .column)

@@ -1,3 +1,2 @@
 -- What the contracts of this crate cite.
 pub mod Fills
-pub mod Patches

@@ -1,8 +1,8 @@
--- Laws for rewriting column u of a stripe, cell after cell or the whole column at once.
+-- Laws for rewriting column u of a stripe.
 --   two-spans        a cell that was set to a seed and a span, and then had another span added
---   whole-copied     a column of which each cell was so set in other room, and which was copied from there
 --   elsewhere        the other columns stay
 --   spans-kept       so do the sums that the cells are rewritten to
+--   rewrote          a column whose cells are the candidate's is rewritten
 --   rewrote-rows     a data column or H, rewritten by the rows, is the candidate
 --   rewrote-diagonals   D, rewritten by the diagonals, is the candidate
 use mathlib.Core.Path.{_≡_, refl, sym, ap, ap₂, _∙_}
@@ -42,26 +42,6 @@ two-spans m b s seed e i t y z {w} {w₁} p q = put-again (λ l. span m (lane m 
     (put-same p (λ l _. ap (λ (x : ℕ). x ⊕ span m (lane m b s l) e i 0 t) (seed-fresh seed w 0 l refl)))
     (put-same q (λ l _. ap (λ (x : ℕ). x ⊕ span m (lane m b s l) e i y z) (seed-kept seed w₁ 0 l refl)))
 
--- a column that was set in other room, and copied from there
-column-copied : {m b c : ℕ} → Sized m b c → (s w v y : List ℕ) (at : ℕ) (f : ℕ → ℕ → ℕ) → at + c ≤ length s → length w ≡ c → Lined (m - 1) b 0 w v f → y ≡ v
-    → Lined (m - 1) b at s (putMid at (at + c - at) s y) f
-column-copied {m} {b} {c} sized s w v y at f room size p e =
-    let put = put-count {k = c} (put-part s y at (at + c - at) (λ l. getD v (0 + l) 0) (omega arith) (ap length e ∙ p .size ∙ omega arith)
-    (λ l _. let z : l ≡ 0 + l = omega arith in ap (λ (x : List ℕ). getD x l 0) e ∙ ap (λ (x : ℕ). getD v x 0) z)) (omega arith) in record {
-      size = put .size;
-      inside = λ r l hr hl. put .inside (r * b + l) (omega (arith, column-is m b c sized, parts-end b hr)) ∙ p .inside r l hr hl;
-      before = put .before;
-      after = λ x h. put .after x (omega (arith, column-is m b c sized));
-    }
-
-module _ (m b c : ℕ) (sized : Sized m b c) where
-  pub whole-copied : (s seed w v₁ v₂ y : List ℕ) (e t n z at : ℕ) → at + c ≤ length s → length w ≡ c
-      → Lined (m - 1) b 0 w v₁ (λ r l. getD seed l 0 ⊕ span m (lane m b s l) e ((r + 0) % m) 0 t) → Grown (m - 1) b 0 v₁ v₂ (λ r l. span m (lane m b s l) e ((r + 0) % m) n z) → y ≡ v₂
-      → Lined (m - 1) b at s (putMid at (at + c - at) s y) (λ i l. getD seed l 0 ⊕ span m (lane m b s l) e i 0 t ⊕ span m (lane m b s l) e i n z)
-  whole-copied s seed w v₁ v₂ y e t n z at room size p q so =
-      column-copied sized s w v₂ y at _ room size (lined-same (lined-grown (m - 1) b 0 (λ r l. span m (lane m b s l) e ((r + 0) % m) n z) p q) (λ r l hr hl.
-      ap (λ (i : ℕ). getD seed l 0 ⊕ span m (lane m b s l) e i 0 t ⊕ span m (lane m b s l) e i n z) (whole-line (omega arith)))) so
-
 module _ (m b c u : ℕ) (column : c ≡ columnLength m b) (s : List ℕ) where
   module _ {n : ℕ} {v : List ℕ} {f : ℕ → ℕ → ℕ} (most : n ≤ m - 1) (p : Lined n b (u * c) s v f) where
     -- the n cells that were set end within their column
@@ -85,7 +65,7 @@ module _ (m b c u : ℕ) (column : c ≡ columnLength m b) (s : List ℕ) where
         (span-agree m (lane m b v l) (lane m b s l) e i y z order (λ r q hr hy hz. elsewhere l r q h hr (ne q hy hz)))
 
   module _ (k : ℕ) {v : List ℕ} {f : ℕ → ℕ → ℕ} (p : Lined (m - 1) b (u * c) s v f) where
-    rewrote : ((i l : ℕ) → i < m - 1 → l < b → f i l ≡ candidate m k (lane m b s l) u i u) → Rewrote m k b u s v
+    pub rewrote : ((i l : ℕ) → i < m - 1 → l < b → f i l ≡ candidate m k (lane m b s l) u i u) → Rewrote m k b u s v
     unfolding byte
     rewrote so = record {
       size = p .size;

@@ -1,4 +1,4 @@
-// The rewriting of one column in place: it becomes what the other columns say that it must be. It is not read.
+// The rewriting of one column in place, cell by cell: it becomes what the other columns say that it must be. It is not read.
 use lines::Grid;
 ghost use mathlib.Core.Path.{_≡_};
 ghost use mathlib.Core.Logic.{_≢_};
@@ -56,31 +56,7 @@ fn rewrite_column(
     }
 }
 
-// Column u becomes the cell seed plus the lines of its rows over the first x columns and over those from y up to z, whole columns at a
-// time. w is room for a column.
-fn rewrite_whole(
-    w: &mut [u8],
-    seed: &[u8],
-    s: &mut [u8],
-    g: Grid,
-    slant: usize,
-    x: usize,
-    y: usize,
-    z: usize,
-    u: usize,
-)
-    requires { ⌜ (length (now w) ≡ g .column) × (0 < length (now seed) → g .b ≤ length (now seed)) × Sized (g .m) (g .b) (g .column) × Crosses (g .m) (g .column) (length (now s)) slant 0 0 x × Crosses (g .m) (g .column) (length (now s)) slant 0 y z × (u * g .column + g .column ≤ length (now s)) ⌝ }
-    ensures { λ _. ⌜ Lined (g .m - 1) (g .b) (u * g .column) (now (s .entry)) (now (s .exit)) (λ i l. getD (now (seed .entry)) l 0 ⊕ span (g .m) (lane (g .m) (g .b) (now (s .entry)) l) slant i 0 x ⊕ span (g .m) (lane (g .m) (g .b) (now (s .entry)) l) slant i y z) ⌝ }
-{
-    let rows = g.m - 1;
-    let c = g.column;
-    seeded::set_rows(w, 0, seed, s, g, slant, 0, rows, 0, x);
-    fill::fill_lines(w, 0, s, g, slant, 0, rows, y, z);
-    let at = u * c;
-    cells::copy_into(&mut s[at..at + c], w);
-}
-
-// Column u becomes the candidate for it, cell by cell. sum and cell are room for cells.
+// Column u becomes the candidate for it. sum and cell are room for cells.
 fn rewrite_in(sum: &mut [u8], cell: &mut [u8], s: &mut [u8], g: Grid, k: usize, u: usize)
     requires { ⌜ (length (now sum) ≡ g .b) × (length (now cell) ≡ g .b) × Sized (g .m) (g .b) (g .column) × (k ≤ g .m) × (length (now s) ≡ (k + 2) * g .column) × (u < k + 2) ⌝ }
     ensures { λ _. ⌜ Rewrote (g .m) k (g .b) u (now (s .entry)) (now (s .exit)) ⌝ }
@@ -94,46 +70,8 @@ fn rewrite_in(sum: &mut [u8], cell: &mut [u8], s: &mut [u8], g: Grid, k: usize, 
     }
 }
 
-// The same, the whole column at once. sum is room for a cell, and w for a column.
-fn rewrite_whole_in(sum: &mut [u8], w: &mut [u8], s: &mut [u8], g: Grid, k: usize, u: usize)
-    requires { ⌜ (length (now sum) ≡ g .b) × (length (now w) ≡ g .column) × Sized (g .m) (g .b) (g .column) × (k ≤ g .m) × (length (now s) ≡ (k + 2) * g .column) × (u < k + 2) ⌝ }
-    ensures { λ _. ⌜ Rewrote (g .m) k (g .b) u (now (s .entry)) (now (s .exit)) ⌝ }
-{
-    let m = g.m;
-    if u <= k {
-        rewrite_whole(w, &sum[0..0], s, g, 0, u, u + 1, k + 1, u);
-    } else {
-        fill::fill_cell(sum, &w[0..0], true, s, g, 1, m - 1, 0, k, 0);
-        rewrite_whole(w, sum, s, g, 1, k, k, k, u);
-    }
-}
-
-// Column u becomes the candidate for it, where a column is short: with little room, since room is cleared before it is used.
+// The same where a cell is not long: with little room, since room is cleared before it is used.
 fn rewrite_small(s: &mut [u8], g: Grid, k: usize, u: usize)
-    requires { ⌜ (g .b < 128) × (g .column ≤ 1024) × Sized (g .m) (g .b) (g .column) × (k ≤ g .m) × (length (now s) ≡ (k + 2) * g .column) × (u < k + 2) ⌝ }
-    ensures { λ _. ⌜ Rewrote (g .m) k (g .b) u (now (s .entry)) (now (s .exit)) ⌝ }
-{
-    let b = g.b;
-    let c = g.column;
-    let mut sum = [0u8; 128];
-    let mut w = [0u8; 1024];
-    rewrite_whole_in(&mut sum[0..b], &mut w[0..c], s, g, k, u);
-}
-
-// The same where a cell is short.
-fn rewrite_short(s: &mut [u8], g: Grid, k: usize, u: usize)
-    requires { ⌜ (g .b < 128) × Sized (g .m) (g .b) (g .column) × (k ≤ g .m) × (length (now s) ≡ (k + 2) * g .column) × (u < k + 2) ⌝ }
-    ensures { λ _. ⌜ Rewrote (g .m) k (g .b) u (now (s .entry)) (now (s .exit)) ⌝ }
-{
-    let b = g.b;
-    let c = g.column;
-    let mut sum = [0u8; 128];
-    let mut w = [0u8; 16384];
-    rewrite_whole_in(&mut sum[0..b], &mut w[0..c], s, g, k, u);
-}
-
-// The same where a cell is not long, cell by cell.
-fn rewrite_middle(s: &mut [u8], g: Grid, k: usize, u: usize)
     requires { ⌜ (g .b ≤ 512) × Sized (g .m) (g .b) (g .column) × (k ≤ g .m) × (length (now s) ≡ (k + 2) * g .column) × (u < k + 2) ⌝ }
     ensures { λ _. ⌜ Rewrote (g .m) k (g .b) u (now (s .entry)) (now (s .exit)) ⌝ }
 {
@@ -161,11 +99,7 @@ pub fn rewrite(s: &mut [u8], g: Grid, k: usize, u: usize)
 {
     if g.b > 512 {
         rewrite_long(s, g, k, u);
-    } else if g.b >= 128 {
-        rewrite_middle(s, g, k, u);
-    } else if g.column <= 1024 {
-        rewrite_small(s, g, k, u);
     } else {
-        rewrite_short(s, g, k, u);
+        rewrite_small(s, g, k, u);
     }
 }

@@ -1,4 +1,4 @@
--- `rebuild::mending::mend` meets its contract: the tests, and what mend_suspect found and left.
+-- `rebuild::mending::mend` meets its contract: the tests, and what `amend` found and left.
 use mathlib.Core.Path.{refl, sym, subst}
 use lib.ListN.{length}
 use native.Mathlib.Omega.{arith}
@@ -42,8 +42,8 @@ returns c =
       rewritten = refl;
     }
 
-mend-suspect-requires : tie.Need-mend-suspect-requires
-mend-suspect-requires c κs = let n = good (c .before) in record { shape = n .shape; column = n .column; stripe = n .stripe }
+amend-requires : tie.Need-amend-requires
+amend-requires c κs = let n = good (c .before) in record { shape = n .shape; column = n .column; stripe = n .stripe }
 
 told-requires : tie.Need-told-requires
 told-requires c κs = tt
@@ -56,9 +56,9 @@ returns-2 c =
     let r = c .before .before .before in
     let z = r .before .before in
     let a = z .before .before .before .before .before .args in
-    let after = r .mend-suspect .last .1 .1 .0 in
+    let after = r .amend .last .0 in
     subst (Mends (a .m) (a .k) (a .b) (now (a .stripe)) after) (sym (c .told .ensures))
-    (mend-answer (a .m) (a .k) (a .b) (now (a .stripe)) after (good z .shape) (stripe z) (r .mend-suspect .result) (r .mend-suspect .ensures))
+    (mend-answer (a .m) (a .k) (a .b) (now (a .stripe)) after (good z .shape) (stripe z) (r .amend .result) (r .amend .ensures))
 
 pub mend-spec : {M : Type 1} → statement M
 mend-spec =
@@ -69,7 +69,7 @@ mend-spec =
     enum-told
     refusal-requires
     returns
-    mend-suspect-requires
+    amend-requires
     told-requires
     same-length
     returns-2)
