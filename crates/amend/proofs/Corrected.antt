@@ -4,19 +4,18 @@
 use mathlib.Core.Path.{_≡_, sym, ap, ap₂, _∙_}
 use mathlib.Core.List.{List}
 use Prim.Native.Nat.{ℕ, _+_, _*_, _-_, _≤_, _<_}
-use native.Mathlib.Omega.{arith}
 use lib.ListN.{getD}
 use Rattle.parity.specs.Xor.{_⊕_}
-use Rattle.parity.specs.Shape.{columnLength}
 use Rattle.parity.specs.Equations.{amountH, amountD}
-use Rattle.parity.specs.Stripe.{byte, lane}
+use Rattle.parity.specs.Stripe.{lane}
 use Rattle.parity.specs.Candidate.{candidate}
 use Rattle.parity.proofs.Candidate.{candidate-h, candidate-d}
 use Rattle.cells.specs.Runs.{Put}
-use Rattle.cells.proofs.Parts.{parts-end}
 use Rattle.lines.specs.Lines.{Sized}
 use Rattle.lines.specs.Rows.{Lined}
 use Rattle.lines.proofs.Lines.{column-is}
+use Rattle.lines.proofs.Cells.{at-row}
+use Rattle.lines.proofs.Rows.{lined-same, run-rows}
 use Rattle.fill.proofs.Rows.{first-at}
 use Rattle.locate.specs.Locate.{AmountsOf}
 use Rattle.rewrite.specs.Rewrite.{Rewrote}
@@ -25,14 +24,8 @@ use Rattle.rewrite.proofs.Rewrites.{rewrote}
 module _ (m k b c : ℕ) (sized : Sized m b c) (s x : List ℕ) (u : ℕ) {v : List ℕ} (p : Put s v (u * c) c (λ n. getD s (u * c + n) 0 ⊕ getD x (0 + n) 0)) where
   -- column x was added to column u, cell by cell
   added : (f : ℕ → ℕ → ℕ) → ((l i : ℕ) → l < b → i < m - 1 → lane m b x l i 0 ≡ f l i) → Lined (m - 1) b (u * c) s v (λ i l. lane m b s l i u ⊕ f l i)
-  unfolding byte
-  added f so = record {
-    size = p .size;
-    inside = λ i l hi hl. p .inside (i * b + l) (omega (arith, column-is m b c sized, parts-end b hi))
-        ∙ ap₂ _⊕_ (ap (λ (n : ℕ). getD s (u * n + (i * b + l)) 0) (sized .column)) (sym (first-at m b x i l) ∙ so l i hl hi);
-    before = p .before;
-    after = λ n h. p .after n (omega (arith, column-is m b c sized));
-  }
+  added f so = lined-same (run-rows (column-is m b c sized) p) (λ i l hi hl.
+      ap₂ _⊕_ (sym (at-row sized s u l i)) (sym (first-at m b x i l) ∙ so l i hl hi))
 
 module _ (m k b c : ℕ) (sized : Sized m b c) (s x y : List ℕ) {v : List ℕ} (amounts : AmountsOf m k b s x y) (u : ℕ) where
   pub corrected-rows : u ≤ k → Put s v (u * c) c (λ n. getD s (u * c + n) 0 ⊕ getD x (0 + n) 0) → Rewrote m k b u s v

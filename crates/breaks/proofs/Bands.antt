@@ -1,6 +1,6 @@
 -- Bands: the first cells of a buffer, set to a seed plus something, added to, and counted where they are not zero.
 --   band-some, band-room   a band has room for one row at least, and for as many as are taken
---   seed-none              an empty seed is zero
+--   seed-empty              an empty seed is zero
 --   seeded-more            one more cell that became its seed plus something
 --   band-fresh, band-held  cells that became the cell x plus something, and cells that had something added
 --   band-more              the one, and then the other
@@ -32,9 +32,9 @@ band-some b n full room = le-div-iff-mul-le {k = b} {x = 1} {y = n} full .1 (ome
 pub band-room : (r b n : ℕ) → r ≤ n / b → r * b ≤ n
 band-room r b n h = le-trans (mul-le-mul-right b h) (div-mul-le-self n b)
 
-pub seed-none : (s w : List ℕ) (to l : ℕ) → seedOf true (part s 0 0) w to l ≡ 0
+pub seed-empty : (s w : List ℕ) (to l : ℕ) → seedOf true (part s 0 0) w to l ≡ 0
 unfolding seedOf
-seed-none s w to l = refl
+seed-empty s w to l = refl
 
 seed-same : (fresh : Bool) (x w u : List ℕ) (to l : ℕ) → getD u (to + l) 0 ≡ getD w (to + l) 0 → seedOf fresh x u to l ≡ seedOf fresh x w to l
 unfolding seedOf

@@ -20,8 +20,9 @@ use Rattle.cells.proofs.Parts.{by-order}
 use Rattle.lines.specs.Lines.{real, line, span}
 use Rattle.lines.specs.Places.{blank}
 use Rattle.lines.proofs.Lines.{real-out, span-none, span-join, span-line}
-use Rattle.lines.proofs.Valid.{line-more, back-row}
-use Rattle.lines.proofs.Amounts.{row-line, diagonal-lines}
+use Rattle.lines.proofs.Equations.{row-at}
+use Rattle.lines.proofs.Valid.{line-more}
+use Rattle.lines.proofs.Amounts.{row-amount-line, diagonal-lines}
 use Rattle.lines.proofs.Places.{blank-span}
 use Rattle.breaks.specs.But.{endsBut, partBut, windowBut, lineBut}
 
@@ -105,7 +106,7 @@ module _ (m k : ℕ) (big : 1 < m) (few : k ≤ m) (a : Lane) where
 
   -- the amount of a row, without H's cell and with it
   pub row-end : (d : ℕ) → d < m → line m a 0 d k ⊕ real m a d k ≡ rowAmount m k a d
-  row-end d l = sym (row-line m k few a d l ∙ line-more m a 0 d k ∙ ap (λ (r : ℕ). line m a 0 d k ⊕ real m a r k) (back-row m d k l))
+  row-end d l = sym (row-amount-line m k few a d l ∙ line-more m a 0 d k ∙ ap (λ (r : ℕ). line m a 0 d k ⊕ real m a r k) (row-at m d k l))
 
   but-H : (d : ℕ) → lineBut m k a k d ≡ line m a 1 d k ⊕ real m a d (k + 1)
   unfolding lineBut

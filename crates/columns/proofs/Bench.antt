@@ -19,7 +19,7 @@ use Rattle.cells.specs.Runs.{Put}
 use Rattle.cells.proofs.Parts.{by-order}
 use Rattle.cells.proofs.Puts.{put-same}
 use Rattle.lines.specs.Lines.{real, Sized}
-use Rattle.lines.proofs.Valid.{real-same}
+use Rattle.lines.proofs.Lines.{real-same}
 use Rattle.lines.proofs.Turned.{turned-runs, second-run}
 use Rattle.fill.specs.Fill.{Lined, BothAdded}
 use Rattle.fill.proofs.Rows.{first-at, second-at, column-end, row-room}

@@ -21,8 +21,8 @@ use Rattle.parity.proofs.Sum.{sum-cong, sum-add}
 use Rattle.parity.proofs.Diagonals.{S-total}
 use Rattle.lines.specs.Lines.{real, span, ended}
 use Rattle.lines.specs.Places.{blank}
-use Rattle.lines.proofs.Lines.{real-in, span-more}
-use Rattle.lines.proofs.Valid.{span-agree, back-row}
+use Rattle.lines.proofs.Lines.{real-in, span-more, span-agree}
+use Rattle.lines.proofs.Equations.{row-at}
 use Rattle.lines.proofs.Amounts.{cell-span}
 use Rattle.lines.proofs.Ended.{crossing, row-crossing, row-clear, diagonal-crossing, diagonal-end, diagonal-clear, rows-left, diagonals-left}
 
@@ -43,7 +43,7 @@ back-here m r u h low =
 pub cells-span : (m : ℕ) (a : Lane) (i k : ℕ) → i < m → span m a 0 i k (k + 2) ≡ real m a i k ⊕ real m a i (k + 1)
 cells-span m a i k h =
     let e : k + 2 ≡ k + 1 + 1 = omega arith in
-    ap (span m a 0 i k) e ∙ sym (span-more m a 0 i k (k + 1)) ∙ ap₂ _⊕_ (cell-span m a i k h) (ap (λ (r : ℕ). real m a r (k + 1)) (back-row m i (k + 1) h))
+    ap (span m a 0 i k) e ∙ sym (span-more m a 0 i k (k + 1)) ∙ ap₂ _⊕_ (cell-span m a i k h) (ap (λ (r : ℕ). real m a r (k + 1)) (row-at m i (k + 1) h))
 
 -- ---- where the equations of a hold
 

@@ -21,9 +21,8 @@ use Rattle.cells.proofs.Parts.{part}
 use Rattle.cells.proofs.Puts.{put-same}
 use Rattle.lines.specs.Lines.{real, span, ended}
 use Rattle.lines.specs.Places.{blank}
-use Rattle.lines.proofs.Lines.{up-straight, real-in, real-out}
+use Rattle.lines.proofs.Lines.{up-straight, real-in, real-out, real-same}
 use Rattle.lines.proofs.Ended.{ended-join}
-use Rattle.lines.proofs.Valid.{real-same}
 use Rattle.lines.proofs.Whole.{no-seed, whole-line}
 use Rattle.fill.specs.Fill.{Lined}
 use Rattle.fill.proofs.Rows.{lined-same}

@@ -1,6 +1,5 @@
 -- A column taken for a row: a stripe of one row, whose columns are the column's cells.
---   row-sized, row-crosses-all   the numbers of that stripe
---   at-row                       where the bytes of a column stand
+--   row-crosses-all              the numbers of that stripe
 --   column-sum                   the sum of that row is the sum of the column's cells
 --   two-sum                      the same of two columns, one after the other
 --   twice, column-twice          half of a column's cells
@@ -21,7 +20,7 @@ use Rattle.cells.specs.Runs.{Put}
 use Rattle.cells.proofs.Parts.{part, part-at, parts-end}
 use Rattle.lines.specs.Lines.{real, line, span, Sized, Crosses}
 use Rattle.lines.proofs.Lines.{real-in, span-line, column-is}
-use Rattle.lines.proofs.Valid.{back-row}
+use Rattle.lines.proofs.Equations.{row-at}
 use Rattle.columns.proofs.Lanes.{cells-span}
 
 -- a row of n cells that stand at p, within q bytes
@@ -38,25 +37,17 @@ module _ (b : ℕ) (s : List ℕ) (p q n l : ℕ) (room : n * b ≤ q) (low : l 
   row-sum : span 2 row 0 0 0 n ≡ sum n (λ i. getD s (p + (i * b + l)) 0)
   unfolding line
   row-sum =
-      span-line 2 row 0 0 n ∙ sum-cong n (λ i h. ap (λ (r : ℕ). real 2 row r i) (back-row 2 0 i (omega arith)) ∙ real-in 2 row 0 i (omega arith) ∙ cell i h)
+      span-line 2 row 0 0 n ∙ sum-cong n (λ i h. ap (λ (r : ℕ). real 2 row r i) (row-at 2 0 i (omega arith)) ∙ real-in 2 row 0 i (omega arith) ∙ cell i h)
 
 module _ {m b c : ℕ} (z : Sized m b c) where
-  pub row-sized : Sized 2 b b
-  unfolding columnLength
-  row-sized = record { big = omega arith; few = omega arith; filled = z .filled; short = z .short; column = omega arith }
-
   pub row-crosses-all : {n q : ℕ} → n ≤ 129 → n * b ≤ q → Crosses 2 b q 0 0 0 n
   row-crosses-all most room = record { slant = omega arith; inside = omega arith; order = omega arith; within = omega arith; most = most; columns = room }
-
-  pub at-row : (s : List ℕ) (t l i : ℕ) → lane m b s l i t ≡ getD s (t * c + (i * b + l)) 0
-  unfolding byte
-  at-row s t l i = ap (λ (n : ℕ). getD s (t * n + (i * b + l)) 0) (sym (z .column))
 
   module _ (s : List ℕ) (t p l : ℕ) (at : p ≡ t * c) (low : l < b) where
     pub column-sum : span 2 (lane 2 b (part s p (p + c)) l) 0 0 0 (m - 1) ≡ sum (m - 1) (λ i. lane m b s l i t)
     column-sum =
         row-sum b s p c (m - 1) l (omega (arith, column-is m b c z)) low
-        ∙ sum-cong (m - 1) (λ i h. ap (λ (n : ℕ). getD s (n + (i * b + l)) 0) at ∙ sym (at-row s t l i))
+        ∙ sum-cong (m - 1) (λ i h. ap (λ (n : ℕ). getD s (n + (i * b + l)) 0) at ∙ sym (at-row z s t l i))
 
     abbrev f : ℕ → ℕ
     f i = getD s (p + (i * b + l)) 0
@@ -67,10 +58,10 @@ module _ {m b c : ℕ} (z : Sized m b c) where
         ∙ ap (λ (n : ℕ). sum n f) (let e : 2 * (m - 1) ≡ m - 1 + (m - 1) = omega arith in e)
         ∙ sum-join (m - 1) (m - 1) f
         ∙ ap₂ _⊕_
-        (sum-cong (m - 1) (λ i h. ap (λ (n : ℕ). getD s (n + (i * b + l)) 0) at ∙ sym (at-row s t l i)))
+        (sum-cong (m - 1) (λ i h. ap (λ (n : ℕ). getD s (n + (i * b + l)) 0) at ∙ sym (at-row z s t l i)))
         (sum-cong (m - 1) (λ i h.
         let e : p + ((m - 1 + i) * b + l) ≡ (t + 1) * c + (i * b + l) = omega (arith, column-is m b c z) in
-        ap (λ (n : ℕ). getD s n 0) e ∙ sym (at-row s (t + 1) l i)))
+        ap (λ (n : ℕ). getD s n 0) e ∙ sym (at-row z s (t + 1) l i)))
 
 pub both-columns : (m : ℕ) (a : Lane) (k : ℕ) → sum (m - 1) (λ i. a i k) ⊕ sum (m - 1) (λ i. a i (k + 1)) ≡ sum (m - 1) (λ i. span m a 0 i k (k + 2))
 both-columns m a k =

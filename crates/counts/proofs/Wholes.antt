@@ -10,7 +10,7 @@ use Rattle.lines.specs.Lines.{real, span}
 use Rattle.lines.specs.Places.{blank}
 use Rattle.lines.proofs.Lines.{span-more}
 use Rattle.lines.proofs.Places.{blank-span}
-use Rattle.lines.proofs.Valid.{back-row}
+use Rattle.lines.proofs.Equations.{row-at}
 use Rattle.lines.proofs.Amounts.{cell-span}
 use Rattle.lines.proofs.Whole.{whole-line}
 use Rattle.breaks.specs.But.{lineBut}
@@ -26,7 +26,7 @@ module _ (m k : ℕ) (a : Lane) (u r : ℕ) (inside : r < m) where
   whole-row h =
       ap (λ (i : ℕ). span m a 0 i 0 (k + 1)) (whole-line inside)
       ∙ sym (span-more m a 0 r 0 k)
-      ∙ ap₂ _⊕_ (all-data (omega arith) 0) (ap (λ (i : ℕ). real m a i k) (back-row m r k inside))
+      ∙ ap₂ _⊕_ (all-data (omega arith) 0) (ap (λ (i : ℕ). real m a i k) (row-at m r k inside))
       ∙ ⊕-comm (span m (blank u u a) 0 r 0 k) (real m a r k)
       ∙ ap₂ _⊕_ (ends-row m k a u r h) (part-row m k a u r 0 k h)
 

@@ -17,19 +17,13 @@ use Rattle.cells.proofs.Parts.{parts-end}
 use Rattle.lines.specs.Lines.{real, line, span, Sized, Crosses}
 use Rattle.lines.specs.Places.{blank}
 use Rattle.lines.proofs.Lines.{real-in, column-is}
-use Rattle.lines.proofs.Valid.{back-row}
-use Rattle.lines.proofs.Rows.{Grown}
+use Rattle.lines.proofs.Equations.{row-at}
+use Rattle.lines.proofs.Rows.{Grown, run-rows, lined-same}
+use Rattle.lines.proofs.Whole.{one-row}
 
 module _ {m b c : ℕ} (z : Sized m b c) where
   pub row-sized : c ≤ 4096 → Sized 2 c c
-  unfolding columnLength
-  row-sized short = record {
-    big = omega arith;
-    few = omega arith;
-    filled = omega (arith, z .filled, z .big, column-is m b c z, parts-end b (let h : 0 < m - 1 = omega (arith, z .big) in h));
-    short = short;
-    column = omega arith;
-  }
+  row-sized = one-row (omega (arith, z .filled, z .big, column-is m b c z, parts-end b (let h : 0 < m - 1 = omega (arith, z .big) in h)))
 
   pub row-crosses : {n x y : ℕ} → Crosses m c n 0 0 x y → Crosses 2 c n 0 0 x y
   row-crosses q = record { slant = omega arith; inside = omega arith; order = q .order; within = omega arith; most = q .most; columns = q .columns }
@@ -52,11 +46,11 @@ module _ {m b c : ℕ} (z : Sized m b c) where
     whole-line : (n : ℕ) → line 2 (blank u v (lane 2 c s p)) 0 0 n ≡ line m (blank u v (lane m b s l)) 0 r n
     unfolding line
     whole-line n = sum-cong n (λ t h.
-        ap (λ (i : ℕ). real 2 (blank u v (lane 2 c s p)) i t) (back-row 2 0 t (omega arith))
+        ap (λ (i : ℕ). real 2 (blank u v (lane 2 c s p)) i t) (row-at 2 0 t (omega arith))
         ∙ real-in 2 (blank u v (lane 2 c s p)) 0 t (omega arith)
         ∙ other t
         ∙ sym (real-in m (blank u v (lane m b s l)) r t low)
-        ∙ ap (λ (i : ℕ). real m (blank u v (lane m b s l)) i t) (sym (back-row m r t (omega arith))))
+        ∙ ap (λ (i : ℕ). real m (blank u v (lane m b s l)) i t) (sym (row-at m r t (omega arith))))
 
     whole-span : (x y : ℕ) → span 2 (blank u v (lane 2 c s p)) 0 0 x y ≡ span m (blank u v (lane m b s l)) 0 r x y
     unfolding span
@@ -65,10 +59,5 @@ module _ {m b c : ℕ} (z : Sized m b c) where
   pub whole-rows : (u v : ℕ) (s : List ℕ) (at x y : ℕ) {w o : List ℕ}
       → Put w o at c (λ n. getD w (at + n) 0 ⊕ span 2 (blank u v (lane 2 c s n)) 0 0 x y)
       → Grown (m - 1) b at w o (λ r l. span m (blank u v (lane m b s l)) 0 r x y)
-  whole-rows u v s at x y {w} q = record {
-    size = q .size;
-    inside = λ r l hr hl.
-        q .inside (r * b + l) (omega (arith, column-is m b c z, parts-end b hr)) ∙ ap (λ (n : ℕ). getD w (at + (r * b + l)) 0 ⊕ n) (whole-span u v s r l hr x y);
-    before = q .before;
-    after = λ n h. q .after n (omega (arith, column-is m b c z));
-  }
+  whole-rows u v s at x y {w} q =
+      lined-same (run-rows (column-is m b c z) q) (λ r l hr _. ap (λ (n : ℕ). getD w (at + (r * b + l)) 0 ⊕ n) (whole-span u v s r l hr x y))

@@ -1,36 +1,32 @@
 -- The amounts by which a lane's equations break, as the lines that the loops follow.
 --   cell-span         a row over one column is one cell
---   row-line          the amount of row r is line r of slant 0 over the data columns and H; of the imaginary row both are zero
+--   row-amount-line   the amount of row r is line r of slant 0 over the data columns and H; of the imaginary row both are zero
 --   diagonal-lines    the amount of diagonal i is S, line i of slant 1 and D's cell
 use mathlib.Core.Path.{_≡_, sym, ap, ap₂, _∙_}
 use Prim.Native.Nat.{ℕ, _+_, _-_, _≤_, _<_}
 use Rattle.parity.specs.Xor.{_⊕_}
-use Rattle.parity.specs.Equations.{Lane, H, S, amountH, amountD}
-use Rattle.parity.proofs.Xor.{⊕-comm, zero-⊕, xor}
+use Rattle.parity.specs.Equations.{Lane, S, amountD}
+use Rattle.parity.proofs.Xor.{zero-⊕, xor}
 use Rattle.parity.proofs.Sum.{sum-none}
 use Rattle.parity.proofs.Candidate.{rowAmount, row-amount, row-amount-last}
 use Rattle.cells.proofs.Parts.{by-order}
 use Rattle.lines.specs.Lines.{real, line, span}
 use Rattle.lines.proofs.Lines.{real-in, real-out, span-none, span-more}
-use Rattle.lines.proofs.Equations.{H-line, S-line, D-line}
-use Rattle.lines.proofs.Valid.{line-more, back-row}
+use Rattle.lines.proofs.Equations.{S-line, D-line, row-at, row-line}
 
 module _ (m : ℕ) (a : Lane) where
   pub cell-span : (i t : ℕ) → i < m → span m a 0 i t (t + 1) ≡ real m a i t
   cell-span i t h =
-      sym (span-more m a 0 i t t) ∙ ap₂ _⊕_ (span-none m a 0 i t) (ap (λ (r : ℕ). real m a r t) (back-row m i t h)) ∙ zero-⊕ (real m a i t)
+      sym (span-more m a 0 i t t) ∙ ap₂ _⊕_ (span-none m a 0 i t) (ap (λ (r : ℕ). real m a r t) (row-at m i t h)) ∙ zero-⊕ (real m a i t)
 
   imaginary-row : (i n : ℕ) → i < m → m - 1 ≤ i → line m a 0 i n ≡ 0
   unfolding line
-  imaginary-row i n h out = sum-none n (λ t _. ap (λ (r : ℕ). real m a r t) (back-row m i t h) ∙ real-out m a i t out)
+  imaginary-row i n h out = sum-none n (λ t _. ap (λ (r : ℕ). real m a r t) (row-at m i t h) ∙ real-out m a i t out)
 
 module _ (m k : ℕ) (few : k ≤ m) (a : Lane) where
-  pub row-line : (r : ℕ) → r < m → rowAmount m k a r ≡ line m a 0 r (k + 1)
-  unfolding amountH
-  row-line r h = by-order (rowAmount m k a r ≡ line m a 0 r (k + 1)) r (m - 1)
-      (λ low.
-      row-amount m k a r low ∙ ⊕-comm (a r k) (H m k a r)
-      ∙ ap₂ _⊕_ (H-line m k few a r h) (sym (ap (λ (x : ℕ). real m a x k) (back-row m r k h) ∙ real-in m a r k low)) ∙ sym (line-more m a 0 r k))
+  pub row-amount-line : (r : ℕ) → r < m → rowAmount m k a r ≡ line m a 0 r (k + 1)
+  row-amount-line r h = by-order (rowAmount m k a r ≡ line m a 0 r (k + 1)) r (m - 1)
+      (λ low. row-amount m k a r low ∙ row-line m k few a r low)
       (λ high. row-amount-last m k a r high ∙ sym (imaginary-row m a r (k + 1) h high))
 
   pub diagonal-lines : 1 < m → (i : ℕ) → i < m - 1 → amountD m k a i ≡ line m a 1 (m - 1) k ⊕ (line m a 1 i k ⊕ real m a i (k + 1))

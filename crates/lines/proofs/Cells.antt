@@ -1,11 +1,12 @@
 -- Where a cell stands in a buffer, and a buffer in which one cell was set: its lanes are what was put there, all other cells are as they were.
 --   cell-end       a cell lies within its column
 --   cell-at        a byte of a cell, by its place
+--   at-row         the same, by the row
 --   cell-set       the cell itself
 --   other-row      the other cells of its column
 --   other-column   the cells of another column
 --   cell-kept      the cells of the first n columns, where all bytes of these are as they were
-use mathlib.Core.Path.{_≡_, ap, _∙_}
+use mathlib.Core.Path.{_≡_, sym, ap, _∙_}
 use mathlib.Core.Logic.{_≢_}
 use mathlib.Core.List.{List}
 use Prim.Native.Nat.{ℕ, _+_, _*_, _-_, _≤_, _<_}
@@ -16,6 +17,7 @@ use Rattle.parity.specs.Shape.{columnLength}
 use Rattle.parity.specs.Stripe.{byte, lane}
 use Rattle.cells.specs.Runs.{Put}
 use Rattle.cells.proofs.Parts.{parts-end, by-order}
+use Rattle.lines.specs.Lines.{Sized}
 
 pub cell-end : (m b x : ℕ) → x < m - 1 → x * b + b ≤ columnLength m b
 unfolding columnLength
@@ -30,6 +32,10 @@ unfolding byte
 cell-at m b r t {p} at s l =
     let e : t * columnLength m b + (r * b + l) ≡ p + l = omega arith in
     ap (λ (x : ℕ). getD s x 0) e
+
+pub at-row : {m b c : ℕ} → Sized m b c → (s : List ℕ) (t l i : ℕ) → lane m b s l i t ≡ getD s (t * c + (i * b + l)) 0
+unfolding byte
+at-row {b = b} z s t l i = ap (λ (n : ℕ). getD s (t * n + (i * b + l)) 0) (sym (z .column))
 
 module _ (m b : ℕ) {s v : List ℕ} {p : ℕ} {f : ℕ → ℕ} (r t : ℕ) (at : p ≡ t * columnLength m b + r * b) (q : Put s v p b f) where
   pub cell-set : (l : ℕ) → l < b → lane m b v l r t ≡ f l

@@ -22,9 +22,10 @@ use Rattle.parity.proofs.Xor.{⊕-assoc, ⊕-zero, zero-⊕, ⊕-self, xor}
 use Rattle.cells.proofs.Parts.{by-order}
 use Rattle.lines.specs.Lines.{real, span, ended}
 use Rattle.lines.specs.Places.{blank}
-use Rattle.lines.proofs.Lines.{span-none, span-line, span-more, span-join}
+use Rattle.lines.proofs.Lines.{span-none, span-line, span-more, span-join, real-same, span-agree}
 use Rattle.lines.proofs.Places.{blank-other, first-blank, second-blank, blank-real, blank-first, blank-second}
-use Rattle.lines.proofs.Valid.{real-same, span-agree, back-row, row-is, diagonal-is}
+use Rattle.lines.proofs.Equations.{row-at}
+use Rattle.lines.proofs.Valid.{row-is, diagonal-is}
 
 by-same : (P : Type 0) (x y : ℕ) → (x ≡ y → P) → (x ≢ y → P) → P
 by-same P x y f g = by-order P x y (λ h. g (λ q. absurd (omega arith))) (λ h. by-order P y x (λ k. g (λ q. absurd (omega arith))) (λ k. f (omega arith)))
@@ -153,7 +154,7 @@ module _ (m : ℕ) (a : Lane) (e i : ℕ) where
 module _ (m k : ℕ) (a : Lane) (i : ℕ) where
   pub row-crossing : (t : ℕ) → i < m → t ≤ k → crossing m a 0 i k k t ≡ real m a i t
   row-crossing t h most = by-order (crossing m a 0 i k k t ≡ real m a i t) t k
-      (λ low. ap₂ _⊕_ (inside-in m a 0 i k t low ∙ ap (λ (r : ℕ). real m a r t) (back-row m i t h)) (end-out m a 0 i k t (λ q. absurd (omega arith))) ∙ ⊕-zero (real m a i t))
+      (λ low. ap₂ _⊕_ (inside-in m a 0 i k t low ∙ ap (λ (r : ℕ). real m a r t) (row-at m i t h)) (end-out m a 0 i k t (λ q. absurd (omega arith))) ∙ ⊕-zero (real m a i t))
       (λ past.
       let q : t ≡ k = omega arith in
       ap₂ _⊕_ (inside-out m a 0 i k t past) (end-in m a 0 i k t q ∙ ap (real m a i) (sym q)) ∙ zero-⊕ (real m a i t))

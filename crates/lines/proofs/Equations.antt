@@ -9,7 +9,6 @@
 --   rest-d      what the cells of column k + 1 differ by from S plus the diagonals are the diagonals' amounts
 --   row-line    a row's amount is the row over the first k + 1 columns
 --   line-same   a line over the first n columns depends on the bytes of those columns alone
---   span-same   the same of a span
 --   line-kept, span-kept   both in a stripe, where all bytes of its first n columns are as they were
 use mathlib.Core.Path.{_≡_, sym, ap, ap₂, _∙_}
 use mathlib.Core.List.{List}
@@ -17,7 +16,6 @@ use Prim.Native.Nat.{ℕ, _+_, _*_, _-_, _≤_, _<_}
 use native.Mathlib.Nat.{zero-mul, one-mul}
 use native.Mathlib.Decide.{decLt}
 use native.Mathlib.Omega.{arith}
-use lib.Dec.{ltb, ltb→lt}
 use lib.ListN.{getD}
 use borrow.Author.Tests.{lt-ltb}
 use Rattle.parity.specs.Xor.{_⊕_}
@@ -26,10 +24,10 @@ use Rattle.parity.specs.Equations.{Lane, cell, back, H, S, D, amountH, amountD}
 use Rattle.parity.specs.Stripe.{lane}
 use Rattle.parity.proofs.Xor.{⊕-comm, ⊕-self, ⊕-zero, xor}
 use Rattle.parity.proofs.Sum.{sum-cong, sum-cut, sum-none}
-use Rattle.parity.proofs.Cells.{diagonal, S-diagonal, cell-imaginary, when-same}
+use Rattle.parity.proofs.Cells.{diagonal, S-diagonal, cell-imaginary}
 use Rattle.parity.proofs.Candidate.{rowAmount, row-amount, row-amount-last}
 use Rattle.lines.specs.Lines.{real, line, span, rest}
-use Rattle.lines.proofs.Lines.{back-none, real-in, real-out, span-more, span-line}
+use Rattle.lines.proofs.Lines.{back-none, real-in, real-out, span-more, span-line, span-agree}
 use Rattle.lines.proofs.Cells.{cell-kept}
 
 -- a line of slant 0 stays in its row
@@ -93,20 +91,12 @@ module _ (m k : ℕ) (few : k ≤ m) (a : Lane) where
       ∙ ap₂ _⊕_ (H-line i (omega arith) ∙ sym (span-line m a 0 i k)) (sym (ap (λ (r : ℕ). real m a r k) (row-at m i k (omega arith)) ∙ real-in m a i k h))
       ∙ span-more m a 0 i 0 k ∙ span-line m a 0 i (k + 1)
 
-module _ (m n : ℕ) (a b : Lane) (same : (i t : ℕ) → i < m - 1 → t < n → a i t ≡ b i t) where
-  pub line-same : (e i : ℕ) → line m a e i n ≡ line m b e i n
-  unfolding line real
-  line-same e i = sum-cong n (λ t l.
-      let r = back m i (e * t) in
-      when-same (ltb r (m - 1)) (a r t) (b r t) (λ h. same r t (ltb→lt r (m - 1) h) l))
-
-pub span-same : (m x y : ℕ) (a b : Lane) → ((i t : ℕ) → i < m - 1 → t < y → a i t ≡ b i t) → x ≤ y → (e i : ℕ) → span m a e i x y ≡ span m b e i x y
-unfolding span
-span-same m x y a b same h e i = ap₂ _⊕_ (line-same m x a b (λ r t hr ht. same r t hr (omega arith)) e i) (line-same m y a b same e i)
+pub line-same : (m n : ℕ) (a b : Lane) → ((i t : ℕ) → i < m - 1 → t < n → a i t ≡ b i t) → (e i : ℕ) → line m a e i n ≡ line m b e i n
+line-same m n a b same e i = sym (span-line m a e i n) ∙ span-agree m a b e i 0 n (omega arith) (λ r t hr _ ht. same r t hr ht) ∙ span-line m b e i n
 
 module _ (m b n : ℕ) (s v : List ℕ) (kept : (p : ℕ) → p < n * columnLength m b → getD v p 0 ≡ getD s p 0) (l : ℕ) (h : l < b) where
   pub line-kept : (y : ℕ) → y ≤ n → (e i : ℕ) → line m (lane m b v l) e i y ≡ line m (lane m b s l) e i y
   line-kept y most = line-same m y (lane m b v l) (lane m b s l) (λ r t hr ht. cell-kept m b n s v kept l r t h hr (omega arith))
 
   pub span-kept : (x y : ℕ) → x ≤ y → y ≤ n → (e i : ℕ) → span m (lane m b v l) e i x y ≡ span m (lane m b s l) e i x y
-  span-kept x y order most = span-same m x y (lane m b v l) (lane m b s l) (λ r t hr ht. cell-kept m b n s v kept l r t h hr (omega arith)) order
+  span-kept x y order most e i = span-agree m (lane m b v l) (lane m b s l) e i x y order (λ r t hr _ ht. cell-kept m b n s v kept l r t h hr (omega arith))

@@ -4,16 +4,18 @@
 --   real-in, real-out        rows below m - 1 are the lane's, the others zero
 --   cell-read                the lanes of a cell, read from a part of the column, which is a part of the stripe
 --   span-none, span-more, span-join, span-line   a span of no columns, of one column more, of the columns of two, and from column 0 on
+--   real-same, span-agree    a cell of a column, and one of another column that is the same; a span depends on the bytes of its own columns alone
 --   line-but                 a line is what is left of it without column u, and the byte in column u
 --   column-is, column-most, cell-room   a cell lies within its column, and a column is not long
 --   crosses-line, crosses-columns, crosses-own, crosses-length   another line, fewer columns, a stripe that ends with them, and one as
 --                            long can be followed too
 --   slant-in, slant-next, row-next     what a slant adds up to, column by column
-use mathlib.Core.Path.{_≡_, sym, ap, _∙_}
+use mathlib.Core.Path.{_≡_, sym, ap, ap₂, _∙_, subst}
 use mathlib.Core.List.{List}
-use Prim.Native.Nat.{ℕ, _+_, _*_, _-_, _%_, _≤_, _<_}
+use Prim.Native.Nat.{ℕ, suc, _+_, _*_, _-_, _%_, _≤_, _<_}
 use native.Mathlib.Nat.{mod-lt, mod-eq-of-lt, add-mod-right, mod-add-mod, mul-le-mul, mul-le-mul-left, mul-le-mul-right, le-refl, le-trans}
 use native.Mathlib.Numerals.{add-one}
+use native.Mathlib.Decide.{le-ind}
 use native.Mathlib.Omega.{arith}
 use lib.ListN.{getD}
 use borrow.Author.Tests.{lt-ltb, le-ltb}
@@ -23,7 +25,7 @@ use Rattle.parity.specs.Shape.{columnLength}
 use Rattle.parity.specs.Equations.{Lane, back}
 use Rattle.parity.specs.Stripe.{byte, lane}
 use Rattle.parity.proofs.Xor.{⊕-assoc, ⊕-self, ⊕-cancel, zero-⊕}
-use Rattle.cells.proofs.Parts.{part, part-at, parts-end}
+use Rattle.cells.proofs.Parts.{part, part-at, parts-end, by-order}
 use Rattle.lines.specs.Lines.{real, line, span, Sized, Crosses}
 
 pub up-around : (m e r : ℕ) → r < e → e ≤ m → r + m - e ≡ back m r e
@@ -154,3 +156,21 @@ crosses-own {c = c} {y = y} z = record {
 
 pub crosses-length : {m c n n′ e i x y : ℕ} → n′ ≡ n → Crosses m c n e i x y → Crosses m c n′ e i x y
 crosses-length q z = record { slant = z .slant; inside = z .inside; order = z .order; within = z .within; most = z .most; columns = omega (arith, z .columns) }
+
+-- ---- two lanes that have the same bytes in some columns
+
+pub real-same : (m : ℕ) (a b : Lane) (r : ℕ) {t t′ : ℕ} → (r < m - 1 → a r t ≡ b r t′) → real m a r t ≡ real m b r t′
+real-same m a b r {t} {t′} same = by-order (real m a r t ≡ real m b r t′) r (m - 1)
+    (λ h. real-in m a r t h ∙ same h ∙ sym (real-in m b r t′ h))
+    (λ h. real-out m a r t h ∙ sym (real-out m b r t′ h))
+
+pub span-agree : (m : ℕ) (a b : Lane) (e i x y : ℕ) → x ≤ y → ((r t : ℕ) → r < m - 1 → x ≤ t → t < y → a r t ≡ b r t) → span m a e i x y ≡ span m b e i x y
+span-agree m a b e i x y order same =
+    le-ind (λ n. n ≤ y → span m a e i x n ≡ span m b e i x n) (λ _. span-none m a e i x ∙ sym (span-none m b e i x)) step y order (le-refl y)
+  where
+    step : (n : ℕ) → x ≤ n → (n ≤ y → span m a e i x n ≡ span m b e i x n) → suc n ≤ y → span m a e i x (suc n) ≡ span m b e i x (suc n)
+    step n hx ih hy =
+        subst (λ (z : ℕ). span m a e i x z ≡ span m b e i x z) (add-one n)
+        (sym (span-more m a e i x n)
+        ∙ ap₂ _⊕_ (ih (omega arith)) (real-same m a b (back m i (e * n)) (λ h. same (back m i (e * n)) n h hx (omega arith)))
+        ∙ span-more m b e i x n)

@@ -1,5 +1,5 @@
 -- Whole columns of a whole stripe: what the loops over them ask for, and the lines that they start from.
---   sized                           the numbers of a shape
+--   sized, one-row                  the numbers of a shape, and of a stripe of one row
 --   row-crosses, diagonal-crosses   rows go through all columns of a stripe, diagonals through the data columns
 --   column-crosses                  rows go through a column that stands alone
 --   column-room, short-column       a column has room for its m - 1 cells; a column of short cells is not long
@@ -21,6 +21,10 @@ use Rattle.lines.proofs.Lines.{column-is}
 
 pub sized : {m k b c : ℕ} → Shape m k b → c ≡ columnLength m b → Sized m b c
 sized s e = record { big = s .value .prime .big; few = s .value .most; filled = s .filled; short = s .short; column = e }
+
+pub one-row : {n : ℕ} → 0 < n → n ≤ 4096 → Sized 2 n n
+unfolding columnLength
+one-row some most = record { big = omega arith; few = omega arith; filled = some; short = most; column = omega arith }
 
 module _ {m k b c p : ℕ} (z : Sized m b c) (few : k ≤ m) (whole : p ≡ (k + 2) * c) where
   columns : {y : ℕ} → y ≤ k + 2 → y * c ≤ p

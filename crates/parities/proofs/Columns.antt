@@ -16,17 +16,16 @@ use lib.ListN.{getD}
 use Rattle.parity.specs.Xor.{_⊕_}
 use Rattle.parity.specs.Shape.{columnLength}
 use Rattle.parity.specs.Equations.{Lane, back}
-use Rattle.parity.specs.Stripe.{byte, lane}
+use Rattle.parity.specs.Stripe.{lane}
 use Rattle.parity.proofs.Xor.{zero-⊕}
 use Rattle.cells.specs.Runs.{Put}
 use Rattle.cells.proofs.Parts.{parts-end, by-order}
 use Rattle.cells.proofs.Puts.{put-same}
 use Rattle.lines.specs.Lines.{real, span, Sized}
 use Rattle.lines.specs.Rows.{Lined}
-use Rattle.lines.proofs.Lines.{real-in, span-none, span-more, column-is, cell-room}
-use Rattle.lines.proofs.Cells.{cell-kept}
+use Rattle.lines.proofs.Lines.{real-in, span-none, span-more, column-is, cell-room, real-same}
+use Rattle.lines.proofs.Cells.{at-row, cell-kept}
 use Rattle.lines.proofs.Equations.{row-at}
-use Rattle.lines.proofs.Valid.{real-same}
 use Rattle.lines.proofs.Rows.{plus-none, grown-more}
 use Rattle.lines.proofs.Turned.{turned-runs}
 use Rattle.parities.specs.Sums.{Grown}
@@ -36,11 +35,6 @@ use Rattle.parities.specs.Sums.{Grown}
 module _ {m b c : ℕ} (z : Sized m b c) where
   pub last-cell : c ≡ (m - 2) * b + b
   last-cell = let e : m - 2 + 1 ≡ m - 1 = omega (arith, z .big) in omega (arith, column-is m b c z, ap (λ (v : ℕ). v * b) e)
-
-  -- the byte in row r of column t
-  at-row : (s : List ℕ) (l r t : ℕ) → lane m b s l r t ≡ getD s (t * c + (r * b + l)) 0
-  unfolding byte
-  at-row s l r t = ap (λ (v : ℕ). getD s (t * v + (r * b + l)) 0) (sym (z .column))
 
   module _ (t : ℕ) (inside : t < m) where
     pub low-run : t * b + (m - 1 - t) * b ≡ c
@@ -83,13 +77,13 @@ module _ {m b c : ℕ} (z : Sized m b c) (k : ℕ) (s t u : List ℕ) where
     kept = λ v hv. q .before v (omega (arith, place)) ∙ kept v hv;
     h = λ r l h₁ h₂ hl.
         let in-row = cell-room m b c z r l 1 (omega arith) (omega arith) in
-        at-row z u l r k ∙ q .before (k * c + (r * b + l)) (omega arith) ∙ p .inside (r * b + l) (omega arith)
-        ∙ ap₂ _⊕_ (sym (at-row z s l r k))
-        (sym (one-span m (lane m b s l) 0 r x ∙ ap (λ (v : ℕ). real m (lane m b s l) v x) (row-at m r x (omega arith)) ∙ real-in m (lane m b s l) r x (omega arith) ∙ at-row z s l r x));
+        at-row z u k l r ∙ q .before (k * c + (r * b + l)) (omega arith) ∙ p .inside (r * b + l) (omega arith)
+        ∙ ap₂ _⊕_ (sym (at-row z s k l r))
+        (sym (one-span m (lane m b s l) 0 r x ∙ ap (λ (v : ℕ). real m (lane m b s l) v x) (row-at m r x (omega arith)) ∙ real-in m (lane m b s l) r x (omega arith) ∙ at-row z s x l r));
     d = λ r l h₁ h₂ hl.
         let e : (k + 1) * c + (r * b + l) ≡ k * c + c + (r * b + l) = omega arith in
-        at-row z u l r (k + 1) ∙ ap (λ (v : ℕ). getD u v 0) e ∙ q .inside r l (omega arith) hl
-        ∙ ap₂ _⊕_ (p .after (k * c + c + (r * b + l)) (omega arith) ∙ ap (λ (v : ℕ). getD s v 0) (sym e) ∙ sym (at-row z s l r (k + 1)))
+        at-row z u (k + 1) l r ∙ ap (λ (v : ℕ). getD u v 0) e ∙ q .inside r l (omega arith) hl
+        ∙ ap₂ _⊕_ (p .after (k * c + c + (r * b + l)) (omega arith) ∙ ap (λ (v : ℕ). getD s v 0) (sym e) ∙ sym (at-row z s (k + 1) l r))
         (real-same m (lane m b t l) (lane m b s l) (back m r x) (λ hr. cell-kept m b k s t kept l (back m r x) x hl hr h)
         ∙ ap (λ (v : ℕ). real m (lane m b s l) (back m r v) x) (sym (one-mul x)) ∙ sym (one-span m (lane m b s l) 1 r x));
     others = λ r l hr hl out. absurd (omega (arith, out (omega arith)));
@@ -111,7 +105,7 @@ module _ {m b c : ℕ} (z : Sized m b c) (k : ℕ) (s t u : List ℕ) where
     kept = λ v hv. q .before v (omega (arith, place)) ∙ p .before v (omega (arith, place));
     h = λ r l h₁ h₂ hl.
         let in-row = cell-room m b c z r l 1 (omega arith) (omega arith) in
-        at-row z u l r k ∙ q .before (k * c + (r * b + l)) (omega arith) ∙ p .inside (r * b + l) (omega (arith, end)) ∙ plus-none 0 (span-none m (lane m b s l) 0 r 0);
+        at-row z u k l r ∙ q .before (k * c + (r * b + l)) (omega arith) ∙ p .inside (r * b + l) (omega (arith, end)) ∙ plus-none 0 (span-none m (lane m b s l) 0 r 0);
     d = λ r l h₁ h₂ hl. every r l (omega arith) hl ∙ plus-none (lane m b s l (m - 2) (k + 1)) (span-none m (lane m b s l) 1 r 0);
     others = λ r l hr hl out. absurd (omega (arith, out (omega arith)));
   }
@@ -125,12 +119,12 @@ module _ {m b c : ℕ} (z : Sized m b c) (k : ℕ) (s t u : List ℕ) where
       last : (l : ℕ) → getD t (k * c + c + c - b + l) 0 ≡ lane m b s l (m - 2) (k + 1)
       last l =
           let e : k * c + c + c - b + l ≡ (k + 1) * c + ((m - 2) * b + l) = omega (arith, end) in
-          p .after (k * c + c + c - b + l) (omega (arith, end)) ∙ ap (λ (v : ℕ). getD s v 0) e ∙ sym (at-row z s l (m - 2) (k + 1))
+          p .after (k * c + c + c - b + l) (omega (arith, end)) ∙ ap (λ (v : ℕ). getD s v 0) e ∙ sym (at-row z s (k + 1) l (m - 2))
 
       every : (r l : ℕ) → r < m - 1 → l < b → lane m b u l r (k + 1) ≡ lane m b s l (m - 2) (k + 1)
       every r l hr hl =
           let e : (k + 1) * c + (r * b + l) ≡ k * c + c + (r * b + l) = omega arith in
-          at-row z u l r (k + 1) ∙ ap (λ (v : ℕ). getD u v 0) e
+          at-row z u (k + 1) l r ∙ ap (λ (v : ℕ). getD u v 0) e
           ∙ by-order (getD u (k * c + c + (r * b + l)) 0 ≡ lane m b s l (m - 2) (k + 1)) r (m - 2)
           (λ low.
           let f : k * c + c + (r * b + l) ≡ k * c + (c + (r * b + l)) = omega arith in

@@ -9,11 +9,10 @@ use mathlib.Core.Path.{_≡_, refl, sym, ap, ap₂, _∙_}
 use mathlib.Core.Logic.{_≢_}
 use mathlib.Core.Bool.{true, false}
 use mathlib.Core.List.{List, []}
-use Prim.Native.Nat.{ℕ, _+_, _*_, _-_, _%_, _≤_, _<_}
+use Prim.Native.Nat.{ℕ, _+_, _*_, _-_, _≤_, _<_}
 use native.Mathlib.Nat.{le-refl, mul-le-mul-right}
 use native.Mathlib.Omega.{arith}
-use lib.ListN.{length, getD}
-use borrow.Rule.Slice.PartMut.{putMid}
+use lib.ListN.{getD}
 use Rattle.parity.specs.Xor.{_⊕_}
 use Rattle.parity.specs.Shape.{columnLength}
 use Rattle.parity.specs.Equations.{S, amountD}
@@ -23,14 +22,11 @@ use Rattle.parity.proofs.Xor.{xor}
 use Rattle.parity.proofs.Candidate.{candidate-h, candidate-d}
 use Rattle.cells.specs.Runs.{Put}
 use Rattle.cells.proofs.Parts.{parts-end, by-order}
-use Rattle.cells.proofs.Puts.{put-same, put-count, put-part, put-again}
-use Rattle.lines.specs.Lines.{real, line, span, Sized, seedOf}
+use Rattle.cells.proofs.Puts.{put-same, put-again}
+use Rattle.lines.specs.Lines.{real, line, span, seedOf}
 use Rattle.lines.specs.Rows.{Lined}
-use Rattle.lines.proofs.Lines.{real-in, span-none, span-line, line-but, column-is}
-use Rattle.lines.proofs.Rows.{Grown, lined-same, lined-grown}
-use Rattle.lines.proofs.Whole.{whole-line}
+use Rattle.lines.proofs.Lines.{real-in, span-none, span-line, line-but, span-agree}
 use Rattle.lines.proofs.Equations.{row-at, row-line, S-line, D-line}
-use Rattle.lines.proofs.Valid.{span-agree}
 use Rattle.lines.proofs.Cells.{cell-end}
 use Rattle.lines.proofs.Seeds.{seed-fresh, seed-kept}
 use Rattle.rewrite.specs.Rewrite.{Rewrote}

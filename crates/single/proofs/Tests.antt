@@ -21,7 +21,7 @@ use Rattle.cells.specs.Runs.{Put}
 use Rattle.cells.proofs.Parts.{by-order}
 use Rattle.fill.proofs.Rows.{first-at, second-at, row-room}
 use Rattle.lines.proofs.Whole.{sized}
-use Rattle.columns.proofs.Totals.{at-row}
+use Rattle.lines.proofs.Cells.{at-row}
 use Rattle.columns.specs.Columns.{OneRestored, TwoRestored}
 
 pub whole-stripe : (m k b : ℕ) {c : ℕ} → c ≡ columnLength m b → (k + 2) * c ≡ stripeLength m k b

@@ -17,7 +17,7 @@ returns : tie.Need-returns
 returns c = search needs
 
 amend-small-requires : tie.Need-amend-small-requires
-amend-small-requires c κs = let p = c .before .before .before .before .before .before .pre in (omega (arith, c .before .before .before .if1 .left), c .before .if2 .taken, sized (p .shape) (p .column), p .shape .few, p .shape .value .odd, p .shape .value .prime, blamed-length p)
+amend-small-requires c κs = let p = c .before .before .before .before .before .before .pre in (omega (arith, c .before .before .before .if1 .left), omega (arith, c .before .if2 .taken), sized (p .shape) (p .column), p .shape .few, p .shape .value .odd, p .shape .value .prime, blamed-length p)
 
 same-length-2 : tie.Need-same-length-2
 same-length-2 c = search needs
@@ -26,7 +26,7 @@ returns-2 : tie.Need-returns-2
 returns-2 c = search needs
 
 amend-middle-requires : tie.Need-amend-middle-requires
-amend-middle-requires c κs = let p = c .before .before .before .before .before .before .before .before .pre in (omega (arith, c .before .before .before .before .before .if1 .left), c .before .if3 .taken, sized (p .shape) (p .column), p .shape .few, p .shape .value .odd, p .shape .value .prime, blamed-length p)
+amend-middle-requires c κs = let p = c .before .before .before .before .before .before .before .before .pre in (omega (arith, c .before .before .before .before .before .if1 .left), omega (arith, c .before .if3 .taken), sized (p .shape) (p .column), p .shape .few, p .shape .value .odd, p .shape .value .prime, blamed-length p)
 
 same-length-3 : tie.Need-same-length-3
 same-length-3 c = search needs

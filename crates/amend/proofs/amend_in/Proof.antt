@@ -26,7 +26,7 @@ correct-requires c κs =
     let a = z .args in
     let e = c .before .before .before .before .before .before .before .before .before .before .before .before .before .before .locate-short .ensures in
     let found = subst (Located (a .g .m) (a .k) (a .g .b) (now (a .s))) (c .before .before .before .before .u .given .1) (e .0) in
-    (e .1, e .2, e .3, z .pre .4, z .pre .5, z .pre .8, found .1)
+    (e .1, e .2, e .3, z .pre .4, z .pre .5, z .pre .8, omega (arith, found .1))
 
 same-length : tie.Need-same-length
 same-length c = search needs

@@ -2,6 +2,7 @@
 use mathlib.Core.Path.{refl, subst}
 use denote.Ref.{now}
 use borrow.Author.Needs.{needs}
+use native.Mathlib.Omega.{arith}
 use Rattle.locate.specs.Locate.{Located}
 use Rattle.amend.proofs.Patched.{patched}
 use Rattle.amend.proofs.amend_long.Statement.{statement}
@@ -27,7 +28,7 @@ rewrite-requires c κs =
     let a = z .args in
     let p = z .pre in
     let found = subst (Located (a .g .m) (a .k) (a .g .b) (now (a .s))) (c .before .before .u .given .1) (c .before .before .before .before .locate-long .ensures) in
-    (p .2, p .1, p .3, p .6, found .1)
+    (p .2, p .1, p .3, p .6, omega (arith, found .1))
 
 same-length : tie.Need-same-length
 same-length c = search needs

@@ -37,7 +37,7 @@ pick-requires-2 c κs =
     let z = c .before .before .before .before .before .before .before .before .before in
     let a = z .args in
     let e = column-is (a .g .m) (a .g .b) (a .g .column) (z .pre .6) in
-    (omega (arith, z .pre .1), omega (arith, z .pre .3, e), z .pre .4, omega (arith, e, column-most (a .g .m) (a .g .b) (a .g .column) (z .pre .6)))
+    (omega (arith, z .pre .1), omega (arith, z .pre .3, e), omega (arith, z .pre .4), omega (arith, e, column-most (a .g .m) (a .g .b) (a .g .column) (z .pre .6)))
 
 find-column-requires : tie.Need-find-column-requires
 find-column-requires c κs =

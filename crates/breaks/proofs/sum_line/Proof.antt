@@ -9,7 +9,7 @@ use Rattle.parity.proofs.Xor.{zero-⊕}
 use Rattle.cells.proofs.Puts.{put-same}
 use Rattle.breaks.proofs.Buts.{window-line}
 use Rattle.breaks.proofs.Folds.{listed-total, listed-in}
-use Rattle.breaks.proofs.Bands.{seed-none}
+use Rattle.breaks.proofs.Bands.{seed-empty}
 use borrow.Author.Needs.{needs}
 use native.Mathlib.Omega.{arith}
 use Rattle.breaks.proofs.sum_line.Statement.{statement}
@@ -57,7 +57,7 @@ returns c =
     let s = now (a .s) in
     let e = listed-total (c .before .before .before .before .before .before .before .before .before .find-line .ensures) (omega (arith, z .pre .1)) s in
     put-same (c .before .before .fill-places .ensures) (λ l h.
-    ap₂ _⊕_ (seed-none s (now (a .sum)) 0 l) (e l ∙ window-line (a .g .m) (a .k) (lane (a .g .m) (a .g .b) s l) (a .u) (a .g .m - 1)) ∙ zero-⊕ _)
+    ap₂ _⊕_ (seed-empty s (now (a .sum)) 0 l) (e l ∙ window-line (a .g .m) (a .k) (lane (a .g .m) (a .g .b) s l) (a .u) (a .g .m - 1)) ∙ zero-⊕ _)
 
 pub sum-line-spec : {M : Type 1} → statement M
 sum-line-spec =

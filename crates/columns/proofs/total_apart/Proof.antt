@@ -10,8 +10,8 @@ use Rattle.cells.proofs.Puts.{put-same, put-count, put-again}
 use Rattle.lines.specs.Lines.{span}
 use Rattle.lines.proofs.Lines.{column-is}
 use Rattle.lines.proofs.Seeds.{seed-fresh, seed-kept}
-use Rattle.lines.proofs.Whole.{seed-none, no-seed}
-use Rattle.columns.proofs.Totals.{row-sized, row-crosses-all, column-sum, both-columns}
+use Rattle.lines.proofs.Whole.{one-row, seed-none, no-seed}
+use Rattle.columns.proofs.Totals.{row-crosses-all, column-sum, both-columns}
 use borrow.Author.Needs.{needs}
 use native.Mathlib.Omega.{arith}
 use Rattle.columns.proofs.total_apart.Statement.{statement}
@@ -51,7 +51,7 @@ fill-cell-requires : tie.Need-fill-cell-requires
 fill-cell-requires c κs =
     let z = c .before .before .before .before .before .before in
     let a = z .args in
-    (seed-none (now (a .s)) (a .g .b), omega (arith, z .pre .0), row-sized (z .pre .1), row-crosses-all (z .pre .1) (omega (arith, z .pre .1 .few)) (omega (arith, column-is (a .g .m) (a .g .b) (a .g .column) (z .pre .1), part-size (now (a .s)) (a .k * a .g .column) (a .g .column) (omega (arith, z .pre .3)))))
+    (seed-none (now (a .s)) (a .g .b), omega (arith, z .pre .0), one-row (z .pre .1 .filled) (z .pre .1 .short), row-crosses-all (z .pre .1) (omega (arith, z .pre .1 .few)) (omega (arith, column-is (a .g .m) (a .g .b) (a .g .column) (z .pre .1), part-size (now (a .s)) (a .k * a .g .column) (a .g .column) (omega (arith, z .pre .3)))))
 
 sub-fill-cell-3 : tie.Need-sub-fill-cell-3
 sub-fill-cell-3 c = search needs
@@ -78,7 +78,7 @@ fill-cell-requires-2 : tie.Need-fill-cell-requires-2
 fill-cell-requires-2 c κs =
     let z = c .before .before .before .before .before .before .before .before .before .before .before .before in
     let a = z .args in
-    (seed-none (now (a .s)) (a .g .b), omega (arith, z .pre .0, c .before .before .before .before .before .fill-cell .ensures .size), row-sized (z .pre .1), row-crosses-all (z .pre .1) (omega (arith, z .pre .1 .few)) (omega (arith, column-is (a .g .m) (a .g .b) (a .g .column) (z .pre .1), part-size (now (a .s)) (a .k * a .g .column + a .g .column) (a .g .column) (omega (arith, z .pre .3)))))
+    (seed-none (now (a .s)) (a .g .b), omega (arith, z .pre .0, c .before .before .before .before .before .fill-cell .ensures .size), one-row (z .pre .1 .filled) (z .pre .1 .short), row-crosses-all (z .pre .1) (omega (arith, z .pre .1 .few)) (omega (arith, column-is (a .g .m) (a .g .b) (a .g .column) (z .pre .1), part-size (now (a .s)) (a .k * a .g .column + a .g .column) (a .g .column) (omega (arith, z .pre .3)))))
 
 same-length : tie.Need-same-length
 same-length c = search needs

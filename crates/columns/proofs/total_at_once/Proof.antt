@@ -10,8 +10,8 @@ use Rattle.cells.proofs.Puts.{put-same, put-count}
 use Rattle.lines.specs.Lines.{span}
 use Rattle.lines.proofs.Lines.{column-is}
 use Rattle.lines.proofs.Seeds.{seed-fresh}
-use Rattle.lines.proofs.Whole.{seed-none, no-seed}
-use Rattle.columns.proofs.Totals.{row-sized, row-crosses-all, two-sum, both-columns}
+use Rattle.lines.proofs.Whole.{one-row, seed-none, no-seed}
+use Rattle.columns.proofs.Totals.{row-crosses-all, two-sum, both-columns}
 use borrow.Author.Needs.{needs}
 use Rattle.columns.proofs.total_at_once.Statement.{statement}
 use Rattle.columns.proofs.total_at_once.Tie as tie
@@ -55,7 +55,7 @@ fill-cell-requires c κs =
     let a = z .args in (
       seed-none (now (a .s)) (a .g .b),
       omega (arith, z .pre .1),
-      row-sized (z .pre .2),
+      one-row (z .pre .2 .filled) (z .pre .2 .short),
       row-crosses-all (z .pre .2) (omega (arith, z .pre .0)) (omega (arith, column-is (a .g .m) (a .g .b) (a .g .column) (z .pre .2), part-size (now (a .s)) (a .k * a .g .column) (2 * a .g .column) (omega (arith, z .pre .4)))),
     )
 

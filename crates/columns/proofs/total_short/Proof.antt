@@ -12,8 +12,8 @@ use Rattle.cells.proofs.Parts.{part, part-at, part-size}
 use Rattle.cells.proofs.Puts.{put-same, put-count, put-part}
 use Rattle.lines.specs.Lines.{span}
 use Rattle.lines.proofs.Seeds.{seed-fresh}
-use Rattle.lines.proofs.Whole.{seed-none, no-seed}
-use Rattle.columns.proofs.Totals.{row-sized, row-crosses-all, twice, column-twice, halves-sum}
+use Rattle.lines.proofs.Whole.{one-row, seed-none, no-seed}
+use Rattle.columns.proofs.Totals.{row-crosses-all, twice, column-twice, halves-sum}
 use borrow.Author.Needs.{needs}
 use Rattle.columns.proofs.total_short.Statement.{statement}
 use Rattle.columns.proofs.total_short.Tie as tie
@@ -126,7 +126,7 @@ fill-cell-requires c κs =
     let n = (a .g .m - 1) / 2 in (
       seed-none (now (a .s)) (a .g .b),
       omega (arith, z .pre .0),
-      row-sized (y .sized),
+      one-row (y .sized .filled) (y .sized .short),
       row-crosses-all (y .sized) (omega (arith, y .sized .few, twice (a .g .m) (z .pre .1))) (omega (arith, part-size (c .before .before .before .before .before .before .add-within .last .0) (a .g .column) (n * a .g .b) (omega (arith, y .bench)))),
     )
 
