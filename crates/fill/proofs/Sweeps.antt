@@ -1,9 +1,11 @@
 -- Lines of a stripe s, in all columns but u and v, added over some of its columns, and then over the next.
 --   lineBut e d x y r l   line r + d modulo m of slant e, over the columns from x up to y but u and v, at lane l; lineAt the same over all of them
 --   rowAt x y r l        row r, over the columns from x up to y, at lane l
+--   cellBut e d t r l    what line r + d modulo m of slant e has in column t, at lane l, which is nothing if t is u or v
 --   line-lt, line-next   a line modulo m is one of m, and the line of the next row
 --   slant-lt             a line reaches a column before it has gone up m rows
---   Swept                to each cell r of n, line r + d was added: swept-none over no columns, swept-join over those of two
+--   Swept                to each cell r of n, line r + d was added: swept-none over no columns, swept-join over those of two, swept-more over
+--                        one more, swept-one over one
 --   whole-span, swept-all    no column is left out
 --   BothSwept            the same in two columns, rows in the first and diagonals in the second: both-swept from the two columns
 use mathlib.Core.Path.{_≡_, ap, _∙_}
@@ -14,11 +16,12 @@ use native.Mathlib.Omega.{arith}
 use lib.ListN.{getD}
 use Rattle.parity.specs.Xor.{_⊕_}
 use Rattle.parity.specs.Shape.{columnLength}
+use Rattle.parity.specs.Equations.{back}
 use Rattle.parity.specs.Stripe.{lane}
 use Rattle.cells.proofs.Parts.{by-order}
-use Rattle.lines.specs.Lines.{span}
+use Rattle.lines.specs.Lines.{real, span}
 use Rattle.lines.specs.Places.{blank}
-use Rattle.lines.proofs.Lines.{span-none, span-join}
+use Rattle.lines.proofs.Lines.{span-none, span-more, span-join}
 use Rattle.lines.proofs.Places.{blank-span}
 use Rattle.fill.specs.Fill.{BothAdded}
 use Rattle.lines.proofs.Rows.{Grown, lined-same, grown-none, grown-same, grown-both}
@@ -43,6 +46,9 @@ module _ (m b u v : ℕ) (s : List ℕ) where
   abbrev pub rowAt : ℕ → ℕ → ℕ → ℕ → ℕ
   rowAt x y r l = span m (blank u v (lane m b s l)) 0 r x y
 
+  abbrev pub cellBut : ℕ → ℕ → ℕ → ℕ → ℕ → ℕ
+  cellBut e d t r l = real m (blank u v (lane m b s l)) (back m ((r + d) % m) (e * t)) t
+
   abbrev pub Swept : ℕ → ℕ → ℕ → ℕ → List ℕ → List ℕ → ℕ → ℕ → Type 0
   Swept n at e d w q x y = Grown n b at w q (lineBut e d x y)
 
@@ -60,6 +66,13 @@ module _ (m b u v : ℕ) (s : List ℕ) where
 
   pub swept-join : (n at e d : ℕ) (w o q : List ℕ) (x y z : ℕ) → Swept n at e d w o x y → Swept n at e d o q y z → Swept n at e d w q x z
   swept-join n at e d w o q x y z f g = grown-both n b at w o q (lineBut e d x y) (lineBut e d y z) (lineBut e d x z) f g (line-join e d x y z)
+
+  pub swept-more : (n at e d : ℕ) (w o q : List ℕ) (x t : ℕ) → Swept n at e d w o x t → Grown n b at o q (cellBut e d t) → Swept n at e d w q x (t + 1)
+  swept-more n at e d w o q x t f g =
+      grown-both n b at w o q (lineBut e d x t) (cellBut e d t) (lineBut e d x (t + 1)) f g (λ r l. span-more m (blank u v (lane m b s l)) e ((r + d) % m) x t)
+
+  pub swept-one : (n at e d : ℕ) (w q : List ℕ) (t : ℕ) → Grown n b at w q (cellBut e d t) → Swept n at e d w q t (t + 1)
+  swept-one n at e d w q t f = swept-more n at e d w w q t t (swept-none n at e d w t) f
 
   pub both-swept-none : (d : ℕ) (w : List ℕ) (x : ℕ) → BothSwept d w w x x
   both-swept-none d w x = both-none m b w (rowAt x x) (lineBut 1 d x x) (λ r l. span-none m (blank u v (lane m b s l)) 0 r x) (line-none 1 d x)

@@ -512,7 +512,7 @@ fn fill_two(w: &mut [u8], s: &[u8], g: Grid, shift: usize, t0: usize, t1: usize,
 }
 
 // The same in groups of eight columns.
-pub fn fill_both(
+fn both_by_groups(
     w: &mut [u8],
     s: &[u8],
     g: Grid,
@@ -530,5 +530,56 @@ pub fn fill_both(
         let e = lines::group_but(t, t1, u, v);
         fill_two(w, s, g, shift, t, e, u, v);
         t = e;
+    }
+}
+
+// The same over column t alone.
+fn add_both(w: &mut [u8], s: &[u8], g: Grid, shift: usize, t: usize, u: usize, v: usize)
+    requires { ⌜ (length (now w) ≡ 2 * g .column) × (shift < g .m) × Sized (g .m) (g .b) (g .column) × Crosses (g .m) (g .column) (length (now s)) 1 0 t (t + 1) ⌝ }
+    ensures { λ _. ⌜ BothAdded (g .m) (g .b) (now (w .entry)) (now (w .exit)) (λ r l. span (g .m) (blank u v (lane (g .m) (g .b) (now (s .entry)) l)) 0 r t (t + 1)) (λ r l. span (g .m) (blank u v (lane (g .m) (g .b) (now (s .entry)) l)) 1 ((r + shift) % g .m) t (t + 1)) ⌝ }
+{
+    let second = g.column;
+    add_other(w, 0, s, g, 0, 0, t, u, v);
+    add_other(w, second, s, g, 1, shift, t, u, v);
+}
+
+// The same over the columns from t0 up to t1, column by column: faster where columns are very short, since what is added to a half waits on what
+// was added there just before, and the halves take turns.
+fn both_by_columns(
+    w: &mut [u8],
+    s: &[u8],
+    g: Grid,
+    shift: usize,
+    t0: usize,
+    t1: usize,
+    u: usize,
+    v: usize,
+)
+    requires { ⌜ (length (now w) ≡ 2 * g .column) × (shift < g .m) × Sized (g .m) (g .b) (g .column) × Crosses (g .m) (g .column) (length (now s)) 1 0 t0 t1 ⌝ }
+    ensures { λ _. ⌜ BothAdded (g .m) (g .b) (now (w .entry)) (now (w .exit)) (λ r l. span (g .m) (blank u v (lane (g .m) (g .b) (now (s .entry)) l)) 0 r t0 t1) (λ r l. span (g .m) (blank u v (lane (g .m) (g .b) (now (s .entry)) l)) 1 ((r + shift) % g .m) t0 t1) ⌝ }
+{
+    for t in t0..t1 {
+        add_both(w, s, g, shift, t, u, v);
+    }
+}
+
+// The same, in the way that suits the columns.
+pub fn fill_both(
+    w: &mut [u8],
+    s: &[u8],
+    g: Grid,
+    shift: usize,
+    t0: usize,
+    t1: usize,
+    u: usize,
+    v: usize,
+)
+    requires { ⌜ (length (now w) ≡ 2 * g .column) × (shift < g .m) × Sized (g .m) (g .b) (g .column) × Crosses (g .m) (g .column) (length (now s)) 1 0 t0 t1 ⌝ }
+    ensures { λ _. ⌜ BothAdded (g .m) (g .b) (now (w .entry)) (now (w .exit)) (λ r l. span (g .m) (blank u v (lane (g .m) (g .b) (now (s .entry)) l)) 0 r t0 t1) (λ r l. span (g .m) (blank u v (lane (g .m) (g .b) (now (s .entry)) l)) 1 ((r + shift) % g .m) t0 t1) ⌝ }
+{
+    if g.column < 64 {
+        both_by_columns(w, s, g, shift, t0, t1, u, v);
+    } else {
+        both_by_groups(w, s, g, shift, t0, t1, u, v);
     }
 }

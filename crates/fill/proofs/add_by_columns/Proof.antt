@@ -1,13 +1,10 @@
 -- `fill::add_by_columns` meets its contract. The invariant: the columns from t0 up to t are added.
 use mathlib.Core.Path.{_≡_, subst}
-use Prim.Native.Nat.{ℕ, _+_, _-_, _%_, _≤_}
+use Prim.Native.Nat.{ℕ, _-_, _≤_}
 use denote.Ref.{now}
-use Rattle.parity.specs.Stripe.{lane}
 use Rattle.cells.proofs.Parts.{parts-end}
-use Rattle.lines.specs.Places.{blank}
-use Rattle.lines.proofs.Lines.{span-more, slant-next}
-use Rattle.lines.proofs.Rows.{Grown, grown-both}
-use Rattle.fill.proofs.Sweeps.{lineBut, slant-lt, swept-none}
+use Rattle.lines.proofs.Lines.{slant-next}
+use Rattle.fill.proofs.Sweeps.{Swept, slant-lt, swept-none, swept-more}
 use borrow.Author.Needs.{needs}
 use native.Mathlib.Omega.{arith}
 use Rattle.fill.proofs.add_by_columns.Statement.{statement}
@@ -15,7 +12,7 @@ use Rattle.fill.proofs.add_by_columns.Tie as tie
 
 abbrev Inv-loop : tie.InvT-loop
 Inv-loop w₀ at s g slant shift t0 t1 u v t₀ w t =
-    (t0 ≤ t) × (t ≤ t1) × Grown (g .m - 1) (g .b) at w₀ w (lineBut (g .m) (g .b) u v s slant shift t0 t)
+    (t0 ≤ t) × (t ≤ t1) × Swept (g .m) (g .b) u v s (g .m - 1) at slant shift w₀ w t0 t
 
 abbrev μ-loop : tie.MeasureT-loop
 μ-loop w₀ at s g slant shift t0 t1 u v t₀ w t = t1 - t
@@ -53,8 +50,7 @@ loop-again c =
     let z = c .before .before .add-other in (
       omega arith,
       omega arith,
-      grown-both (a .g .m - 1) (a .g .b) (a .at) (now (a .w)) (y .w) (z .last .0) (lineBut (a .g .m) (a .g .b) (a .u) (a .v) (now (a .s)) (a .slant) (a .shift) (a .t0) (y .t)) _ (lineBut (a .g .m) (a .g .b) (a .u) (a .v) (now (a .s)) (a .slant) (a .shift) (a .t0) (y .t + 1)) (y .inv .2) (z .ensures)
-          (λ r l. span-more (a .g .m) (blank (a .u) (a .v) (lane (a .g .m) (a .g .b) (now (a .s)) l)) (a .slant) ((r + a .shift) % a .g .m) (a .t0) (y .t)),
+      swept-more (a .g .m) (a .g .b) (a .u) (a .v) (now (a .s)) (a .g .m - 1) (a .at) (a .slant) (a .shift) (now (a .w)) (y .w) (z .last .0) (a .t0) (y .t) (y .inv .2) (z .ensures),
     )
 
 same-length : tie.Need-same-length Inv-loop μ-loop
@@ -65,7 +61,7 @@ returns c =
     let a = c .before .before .before .before .args in
     let y = c .before .loop in
     let e : y .t ≡ a .t1 = omega (arith, y .inv .1, c .loop-test .left) in
-    subst (λ (x : ℕ). Grown (a .g .m - 1) (a .g .b) (a .at) (now (a .w)) (y .w) (lineBut (a .g .m) (a .g .b) (a .u) (a .v) (now (a .s)) (a .slant) (a .shift) (a .t0) x)) e (y .inv .2)
+    subst (λ (x : ℕ). Swept (a .g .m) (a .g .b) (a .u) (a .v) (now (a .s)) (a .g .m - 1) (a .at) (a .slant) (a .shift) (now (a .w)) (y .w) (a .t0) x) e (y .inv .2)
 
 pub add-by-columns-spec : {M : Type 1} → statement M
 add-by-columns-spec =

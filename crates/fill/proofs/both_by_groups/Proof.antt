@@ -1,4 +1,4 @@
--- `fill::fill_both` meets its contract. The invariant: the columns from t0 up to t are added.
+-- `fill::both_by_groups` meets its contract. The invariant: the columns from t0 up to t are added.
 use mathlib.Core.Path.{_≡_, subst}
 use Prim.Native.Nat.{ℕ, _-_, _≤_}
 use denote.Ref.{now}
@@ -6,8 +6,8 @@ use Rattle.lines.proofs.Lines.{crosses-columns}
 use Rattle.fill.proofs.Sweeps.{BothSwept, both-swept-none, both-swept-join}
 use borrow.Author.Needs.{needs}
 use native.Mathlib.Omega.{arith}
-use Rattle.fill.proofs.fill_both.Statement.{statement}
-use Rattle.fill.proofs.fill_both.Tie as tie
+use Rattle.fill.proofs.both_by_groups.Statement.{statement}
+use Rattle.fill.proofs.both_by_groups.Tie as tie
 
 abbrev Inv-loop : tie.InvT-loop
 Inv-loop w₀ s g shift t0 t1 u v t₀ w t = (t0 ≤ t) × (t ≤ t1) × BothSwept (g .m) (g .b) u v s shift w₀ w t0 t
@@ -53,8 +53,8 @@ returns c =
     let e : y .t ≡ a .t1 = omega arith in
     subst (λ (x : ℕ). BothSwept (a .g .m) (a .g .b) (a .u) (a .v) (now (a .s)) (a .shift) (now (a .w)) (y .w) (a .t0) x) e (y .inv .2)
 
-pub fill-both-spec : {M : Type 1} → statement M
-fill-both-spec =
+pub both-by-groups-spec : {M : Type 1} → statement M
+both-by-groups-spec =
     tie.close
     (tie.spec
     Inv-loop
