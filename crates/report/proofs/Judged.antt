@@ -38,7 +38,7 @@ use Rattle.image.specs.Reads.{contentsRules, lengthRules, readRules, answered, 
 use Rattle.image.specs.Determined.{ImageOne, ContentsOne}
 use Rattle.image.proofs.Filling.{Good, good-answer}
 use Rattle.image.proofs.Determined.{image-one, contents-one}
-use Rattle.report.specs.declared.lines.Shape.{Shape}
+use Rattle.report.specs.declared.writing.Shape.{Shape}
 use Rattle.report.specs.declared.judging.Outcome.{Outcome}
 use Rattle.report.specs.declared.judging.Outcome.the-variants as outcome
 use Rattle.report.specs.declared.judging.Judgement.{Judgement}

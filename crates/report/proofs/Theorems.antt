@@ -27,7 +27,7 @@ use Rattle.image.specs.declared.answers.Read.the-variants as read
 use Rattle.image.specs.Reads.{contentsRules, Filled, ReadInto}
 use Rattle.image.specs.Determined.{ReadsOne}
 use Rattle.image.proofs.Determined.{reads-one}
-use Rattle.report.specs.declared.lines.Shape.{Shape}
+use Rattle.report.specs.declared.writing.Shape.{Shape}
 use Rattle.report.specs.declared.judging.Outcome.{Outcome}
 use Rattle.report.specs.declared.judging.Outcome.the-variants as outcome
 use Rattle.report.specs.declared.judging.Judgement.{Judgement}

@@ -27,7 +27,7 @@ use Rattle.inputs.proofs.Presence.{absences-below}
 use Rattle.image.specs.Format.{presentBelow}
 use Rattle.image.proofs.Filling.{Good}
 use Rattle.image.proofs.Laid.{image-laid}
-use Rattle.report.specs.declared.lines.Shape.{Shape}
+use Rattle.report.specs.declared.writing.Shape.{Shape}
 use Rattle.report.specs.declared.judging.Outcome.{Outcome}
 use Rattle.report.specs.declared.judging.Outcome.the-variants as outcome
 use Rattle.report.specs.declared.judging.Judgement.{Judgement}

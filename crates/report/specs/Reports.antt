@@ -11,7 +11,7 @@ use lib.ListN.{length, take, drop}
 use Rattle.parity.specs.Shape.{columnLength}
 use Rattle.inputs.specs.declared.maps.Map.{Map}
 use Rattle.inputs.specs.Refusals.{numberOf}
-use Rattle.report.specs.declared.lines.Shape.{Shape}
+use Rattle.report.specs.declared.writing.Shape.{Shape}
 use Rattle.report.specs.declared.judging.Outcome.{Outcome}
 use Rattle.report.specs.declared.judging.Outcome.the-variants.{Complete, Ambiguous, Contradicted, Refused}
 use Rattle.report.specs.declared.judging.Judgement.{Judgement}

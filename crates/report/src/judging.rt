@@ -1,5 +1,5 @@
 // Judging an image: reading it, restoring it, and saying what came of it.
-use crate::lines::Shape;
+use crate::writing::Shape;
 use evenodd::Map;
 use evenodd::Refusal;
 use evenodd::Restored;

@@ -1,10 +1,10 @@
 // The report: what is judged of an image, as text.
 use crate::judging::Outcome;
 use crate::judging::judge_image;
-use crate::lines::Shape;
-use crate::lines::put_answer;
-use crate::lines::put_columns;
-use crate::lines::put_shape;
+use crate::writing::Shape;
+use crate::writing::put_answer;
+use crate::writing::put_columns;
+use crate::writing::put_shape;
 use evenodd::Map;
 ghost use Prim.Native.Nat.{_≤_, _<_};
 ghost use lib.ListN.{length};

@@ -1,6 +1,6 @@
 // A line for each operation on an image, in the form `CASE OPERATION ANSWER`.
-use crate::lines::say_four;
-use crate::lines::say_last;
+use crate::operations::say_four;
+use crate::operations::say_last;
 use crate::writing::say_flat;
 use crate::writing::say_head;
 use crate::writing::say_map;

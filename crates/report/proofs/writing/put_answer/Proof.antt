@@ -1,9 +1,9 @@
--- `report::lines::put_answer` meets its contract: the word, and then the number.
+-- `report::writing::put_answer` meets its contract: the word, and then the number.
 use Rattle.text.proofs.Writing.{wrote-then}
 use borrow.Author.Needs.{needs}
 use native.Mathlib.Omega.{arith}
-use Rattle.report.proofs.lines.put_answer.Statement.{statement}
-use Rattle.report.proofs.lines.put_answer.Tie as tie
+use Rattle.report.proofs.writing.put_answer.Statement.{statement}
+use Rattle.report.proofs.writing.put_answer.Tie as tie
 
 slice-aggregate-put-word : tie.Need-slice-aggregate-put-word
 slice-aggregate-put-word c = search needs

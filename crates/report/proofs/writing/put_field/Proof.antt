@@ -1,9 +1,9 @@
--- `report::lines::put_field` meets its contract: the number, and then the byte.
+-- `report::writing::put_field` meets its contract: the number, and then the byte.
 use Rattle.text.proofs.Writing.{wrote-then}
 use borrow.Author.Needs.{needs}
 use native.Mathlib.Omega.{arith}
-use Rattle.report.proofs.lines.put_field.Statement.{statement}
-use Rattle.report.proofs.lines.put_field.Tie as tie
+use Rattle.report.proofs.writing.put_field.Statement.{statement}
+use Rattle.report.proofs.writing.put_field.Tie as tie
 
 put-decimal-requires : tie.Need-put-decimal-requires
 put-decimal-requires c κs = search needs

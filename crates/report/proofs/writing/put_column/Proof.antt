@@ -1,4 +1,4 @@
--- `report::lines::put_column` meets its contract: what show hands out is the column that is meant, of the length of a column.
+-- `report::writing::put_column` meets its contract: what show hands out is the column that is meant, of the length of a column.
 use mathlib.Core.Path.{ap₂}
 use Rattle.inputs.proofs.Shape.{places-most}
 use Rattle.report.specs.Lines.{columnLine}
@@ -6,8 +6,8 @@ use Rattle.report.proofs.Shown.{held-shown}
 use Rattle.text.proofs.Writing.{wrote-same}
 use borrow.Author.Needs.{needs}
 use native.Mathlib.Omega.{arith}
-use Rattle.report.proofs.lines.put_column.Statement.{statement}
-use Rattle.report.proofs.lines.put_column.Tie as tie
+use Rattle.report.proofs.writing.put_column.Statement.{statement}
+use Rattle.report.proofs.writing.put_column.Tie as tie
 
 show-requires : tie.Need-show-requires
 show-requires c κs = search needs

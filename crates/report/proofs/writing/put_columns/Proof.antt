@@ -1,4 +1,4 @@
--- `report::lines::put_columns` meets its contract. The invariant: the lines of the columns before t are written.
+-- `report::writing::put_columns` meets its contract. The invariant: the lines of the columns before t are written.
 use mathlib.Core.Path.{_≡_, refl}
 use Prim.Native.Nat.{_+_, _*_, _-_, _≤_}
 use native.Mathlib.Nat.{suc-mul}
@@ -12,8 +12,8 @@ use Rattle.report.proofs.Shown.{lines-none, lines-next}
 use Rattle.text.proofs.Writing.{wrote-none, wrote-then, wrote-same}
 use borrow.Author.Needs.{needs}
 use native.Mathlib.Omega.{arith}
-use Rattle.report.proofs.lines.put_columns.Statement.{statement}
-use Rattle.report.proofs.lines.put_columns.Tie as tie
+use Rattle.report.proofs.writing.put_columns.Statement.{statement}
+use Rattle.report.proofs.writing.put_columns.Tie as tie
 
 abbrev Inv-loop : tie.InvT-loop
 Inv-loop out₀ at shape map stripe bench next₀ t₀ t-end out next t =

@@ -1,9 +1,9 @@
--- `report::lines::put_line` meets its contract: the number, the state, the bytes and the end of the line, one after another.
+-- `report::writing::put_line` meets its contract: the number, the state, the bytes and the end of the line, one after another.
 use Rattle.text.proofs.Writing.{wrote-then}
 use borrow.Author.Needs.{needs}
 use native.Mathlib.Omega.{arith}
-use Rattle.report.proofs.lines.put_line.Statement.{statement}
-use Rattle.report.proofs.lines.put_line.Tie as tie
+use Rattle.report.proofs.writing.put_line.Statement.{statement}
+use Rattle.report.proofs.writing.put_line.Tie as tie
 
 put-decimal-requires : tie.Need-put-decimal-requires
 put-decimal-requires c κs = search needs

@@ -1,11 +1,11 @@
--- `report::lines::put_state` meets its contract: each arm writes the word of its state.
+-- `report::writing::put_state` meets its contract: each arm writes the word of its state.
 use mathlib.Core.Path.{sym, ap}
 use Rattle.report.specs.Lines.{stateWord}
 use Rattle.text.proofs.Writing.{wrote-same}
 use borrow.Author.Needs.{needs}
 use native.Mathlib.Omega.{arith}
-use Rattle.report.proofs.lines.put_state.Statement.{statement}
-use Rattle.report.proofs.lines.put_state.Tie as tie
+use Rattle.report.proofs.writing.put_state.Statement.{statement}
+use Rattle.report.proofs.writing.put_state.Tie as tie
 
 slice-aggregate-put-word : tie.Need-slice-aggregate-put-word
 slice-aggregate-put-word c = search needs

@@ -1,9 +1,9 @@
--- `report::lines::put_shape` meets its contract: the word, and then the three numbers.
+-- `report::writing::put_shape` meets its contract: the word, and then the three numbers.
 use Rattle.text.proofs.Writing.{wrote-then}
 use borrow.Author.Needs.{needs}
 use native.Mathlib.Omega.{arith}
-use Rattle.report.proofs.lines.put_shape.Statement.{statement}
-use Rattle.report.proofs.lines.put_shape.Tie as tie
+use Rattle.report.proofs.writing.put_shape.Statement.{statement}
+use Rattle.report.proofs.writing.put_shape.Tie as tie
 
 slice-aggregate-put-word : tie.Need-slice-aggregate-put-word
 slice-aggregate-put-word c = search needs
