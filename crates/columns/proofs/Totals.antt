@@ -20,6 +20,7 @@ use Rattle.cells.specs.Runs.{Put}
 use Rattle.cells.proofs.Parts.{part, part-at, parts-end}
 use Rattle.lines.specs.Lines.{real, line, span, Sized, Crosses}
 use Rattle.lines.proofs.Lines.{real-in, span-line, column-is}
+use Rattle.lines.proofs.Cells.{at-row}
 use Rattle.lines.proofs.Equations.{row-at}
 use Rattle.columns.proofs.Lanes.{cells-span}
 
