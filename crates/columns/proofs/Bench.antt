@@ -3,12 +3,13 @@
 --   first-set, second-set    a half was set
 --   halves-added             something was added to both halves
 --   first-added              the first half was added to the second
---   TurnedIn, turned-in      to each row i of the second half, row i - u of the first was added, in two runs
---   turned-added             what stands there then
+--   RowsIn                   to each row i of the second half a row of the first was added: turned-in row i - u, in two runs, row-in the same row
+--                            to each, none-in an imaginary one
+--   rows-added               what stands there then
 --   one-restored, two-restored   what stands there is what was to be restored
 use mathlib.Core.Path.{_≡_, refl, sym, ap, ap₂, _∙_}
 use mathlib.Core.List.{List}
-use Prim.Native.Nat.{ℕ, _+_, _-_, _*_, _<_}
+use Prim.Native.Nat.{ℕ, _+_, _-_, _*_, _≤_, _<_}
 use native.Mathlib.Omega.{arith}
 use lib.ListN.{length, getD}
 use Rattle.parity.specs.Xor.{_⊕_}
@@ -19,10 +20,10 @@ use Rattle.cells.specs.Runs.{Put}
 use Rattle.cells.proofs.Parts.{by-order}
 use Rattle.cells.proofs.Puts.{put-same}
 use Rattle.lines.specs.Lines.{real, Sized}
-use Rattle.lines.proofs.Lines.{real-same}
+use Rattle.lines.proofs.Lines.{real-in, real-out, real-same}
 use Rattle.lines.proofs.Turned.{turned-runs, second-run}
 use Rattle.fill.specs.Fill.{Lined, BothAdded}
-use Rattle.fill.proofs.Rows.{first-at, second-at, column-end, row-room}
+use Rattle.fill.proofs.Rows.{lined-same, grown-none, first-at, second-at, column-end, row-room}
 use Rattle.walk.specs.Walk.{Column, Parted}
 use Rattle.columns.specs.Columns.{SameBut, SameButTwo, OneRestored, TwoRestored}
 
@@ -66,14 +67,14 @@ module _ (m b : ℕ) where
     second = λ i l hi hl. q .second i l hi hl ∙ ap (λ (x : ℕ). x ⊕ g′ i l) (p .second i l hi hl);
   }
 
-  -- ---- rows of the first half, turned by u rows, added to the second
+  -- ---- rows of the first half added to the second: row ρ i to row i
 
-  abbrev pub TurnedIn : ℕ → ℕ → List ℕ → List ℕ → Type 0
-  TurnedIn c u w v = Lined (m - 1) b c w v (λ i l. getD w (c + (i * b + l)) 0 ⊕ real m (lane m b w l) (back m i u) 0)
+  abbrev pub RowsIn : ℕ → (ℕ → ℕ) → List ℕ → List ℕ → Type 0
+  RowsIn c ρ w v = Lined (m - 1) b c w v (λ i l. getD w (c + (i * b + l)) 0 ⊕ real m (lane m b w l) (ρ i) 0)
 
   pub turned-in : {c u : ℕ} → Sized m b c → u < m → {w x v : List ℕ}
       → Put w x (c + u * b) ((m - 1 - u) * b) (λ l. getD w (c + u * b + l) 0 ⊕ getD w (0 + l) 0)
-      → Put x v c ((u - 1) * b) (λ l. getD x (c + l) 0 ⊕ getD x ((m - u) * b + l) 0) → TurnedIn c u w v
+      → Put x v c ((u - 1) * b) (λ l. getD x (c + l) 0 ⊕ getD x ((m - u) * b + l) 0) → RowsIn c (λ i. back m i u) w v
   turned-in {c} {u} z h {w} {x} {v} p q =
       turned-runs z c u 0 h w x v w
       (put-same p (λ l k. ap (λ (y : ℕ). getD w (c + u * b + l) 0 ⊕ getD w y 0) (let e : 0 + l ≡ 0 * c + l = omega arith in e)))
@@ -83,14 +84,22 @@ module _ (m b : ℕ) where
       (λ some. omega (arith, second-run z u some (omega arith))))
       ∙ ap (λ (y : ℕ). getD w y 0) (let e : (m - u) * b + l ≡ 0 * c + (m - u) * b + l = omega arith in e))))
 
-  module _ {c : ℕ} (column : c ≡ columnLength m b) (u : ℕ) where
-    pub turned-added : {w v : List ℕ} {f g : Column} → Parted m b w f g → TurnedIn c u w v → Parted m b v f (λ i l. g i l ⊕ real m (λ r t. f r l) (back m i u) 0)
-    turned-added {w} {v} {f} {g} p q = record {
+  pub row-in : (c r : ℕ) {w v : List ℕ} → r < m - 1 → Lined (m - 1) b c w v (λ i l. getD w (c + (i * b + l)) 0 ⊕ getD w (r * b + l) 0) → RowsIn c (λ i. r) w v
+  row-in c r {w} h p = lined-same p (λ i l hi hl.
+      let e : r * b + l ≡ 0 + (r * b + l) = omega arith in
+      ap (λ (x : ℕ). getD w (c + (i * b + l)) 0 ⊕ x) (ap (λ (x : ℕ). getD w x 0) e ∙ sym (first-at m b w r l) ∙ sym (real-in m (lane m b w l) r 0 h)))
+
+  pub none-in : (c r : ℕ) (w : List ℕ) → m - 1 ≤ r → RowsIn c (λ i. r) w w
+  none-in c r w h = grown-none (m - 1) b c w (λ i l. real m (lane m b w l) r 0) (λ i l. real-out m (lane m b w l) r 0 h)
+
+  module _ {c : ℕ} (column : c ≡ columnLength m b) (ρ : ℕ → ℕ) where
+    pub rows-added : {w v : List ℕ} {f g : Column} → Parted m b w f g → RowsIn c ρ w v → Parted m b v f (λ i l. g i l ⊕ real m (λ r t. f r l) (ρ i) 0)
+    rows-added {w} {v} {f} {g} p q = record {
       size = q .size ∙ p .size;
       first = second-set column p q .first;
       second = λ i l hi hl.
           second-set column p q .second i l hi hl
-          ∙ ap₂ _⊕_ (sym (second-at m b c w i l column) ∙ p .second i l hi hl) (real-same m (lane m b w l) (λ r t. f r l) (back m i u) (λ hr. p .first (back m i u) l hr hl));
+          ∙ ap₂ _⊕_ (sym (second-at m b c w i l column) ∙ p .second i l hi hl) (real-same m (lane m b w l) (λ r t. f r l) (ρ i) (λ hr. p .first (ρ i) l hr hl));
     }
 
 -- ---- what was to be restored

@@ -15,7 +15,7 @@ ghost use Rattle.lines.specs.Lines.{real, span, Sized};
 ghost use Rattle.fill.specs.Fill.{Lined};
 ghost use Rattle.walk.specs.Walk.{Reaches};
 ghost use Rattle.columns.specs.Columns.{Ready, OneRestored, TwoRestored};
-ghost use Rattle.columns.specs.Sums.{rowLeft, diagonalLeft, Mixes};
+ghost use Rattle.columns.specs.Sums.{rowLeft, diagonalLeft, BothLeft, Mixes};
 
 // The half of w at `at` becomes what is left of the rows when columns u and v are left out.
 fn set_rows(w: &mut [u8], at: usize, s: &[u8], g: Grid, k: usize, u: usize, v: usize)
@@ -54,14 +54,14 @@ fn set_diagonals(
     seeded::set_ended(w, at, x, s, g, 1, shift, rows, k + 1, k, u, v);
 }
 
-// The half of w at `at` becomes what is left of the diagonals, each plus what is left of diagonal m - 1. x is room for a cell.
-fn put_d(w: &mut [u8], at: usize, x: &mut [u8], s: &[u8], g: Grid, k: usize, u: usize, v: usize)
-    requires { ⌜ (length (now x) ≡ g .b) × (at ≤ g .column) × Ready (g .m) k (g .b) (g .column) (length (now s)) (length (now w)) ⌝ }
-    ensures { λ _. ⌜ Lined (g .m - 1) (g .b) at (now (w .entry)) (now (w .exit)) (λ r l. diagonalLeft (g .m) k (g .b) u v (now (s .entry)) (g .m - 1) l ⊕ diagonalLeft (g .m) k (g .b) u v (now (s .entry)) r l) ⌝ }
+// The first half of w becomes what is left of the diagonals, each plus what is left of diagonal m - 1. x is room for a cell.
+fn put_d(w: &mut [u8], x: &mut [u8], s: &[u8], g: Grid, k: usize, u: usize, v: usize)
+    requires { ⌜ (length (now x) ≡ g .b) × Ready (g .m) k (g .b) (g .column) (length (now s)) (length (now w)) ⌝ }
+    ensures { λ _. ⌜ Lined (g .m - 1) (g .b) 0 (now (w .entry)) (now (w .exit)) (λ r l. diagonalLeft (g .m) k (g .b) u v (now (s .entry)) (g .m - 1) l ⊕ diagonalLeft (g .m) k (g .b) u v (now (s .entry)) r l) ⌝ }
 {
     let m = g.m;
     set_diagonal(x, s, g, k, m - 1, u, v);
-    set_diagonals(w, at, x, s, g, k, 0, u, v);
+    set_diagonals(w, 0, x, s, g, k, 0, u, v);
 }
 
 // Column u is absent: the first half of w becomes column u of the valid stripe that agrees with s in all other columns, if there is one.
@@ -74,7 +74,7 @@ pub fn restore_one(s: &[u8], w: &mut [u8], g: Grid, k: usize, u: usize)
     } else {
         let b = g.b;
         let mut sum = [0u8; 4096];
-        put_d(w, 0, &mut sum[0..b], s, g, k, u, 129);
+        put_d(w, &mut sum[0..b], s, g, k, u, 129);
     }
 }
 
@@ -149,19 +149,39 @@ fn total(x: &mut [u8], w: &mut [u8], s: &[u8], g: Grid, k: usize)
     }
 }
 
+// Where the first group of the columns but u and v ends, of which the lines are set. Very short columns are better all added.
+fn first_group(g: Grid, k: usize, u: usize, v: usize) -> usize
+    requires { ⌜ k ≤ 129 ⌝ }
+    ensures { λ e. ⌜ (e ≤ k) × (e ≤ 10) ⌝ }
+{
+    if g.column < 64 {
+        return 0;
+    }
+    lines::group_but(0, k, u, v)
+}
+
+// The first half of w becomes what is left of the rows when columns u and v are left out, the second what is left of the diagonals, each plus the
+// cell x: row r has diagonal r + shift modulo m.
+fn put_both(w: &mut [u8], x: &[u8], s: &[u8], g: Grid, k: usize, shift: usize, u: usize, v: usize)
+    requires { ⌜ (length (now x) ≡ g .b) × (shift < g .m) × Ready (g .m) k (g .b) (g .column) (length (now s)) (length (now w)) ⌝ }
+    ensures { λ _. ⌜ BothLeft (g .m) k (g .b) u v shift (now (s .entry)) (now (x .entry)) (now (w .exit)) ⌝ }
+{
+    let rows = g.m - 1;
+    let second = g.column;
+    let e = first_group(g, k, u, v);
+    seeded::set_first(w, 0, &s[0..0], s, g, 0, 0, rows, k, e, u, v);
+    seeded::set_first(w, second, x, s, g, 1, shift, rows, k + 1, e, u, v);
+    fill::fill_both(w, s, g, shift, e, k, u, v);
+}
+
 // The halves of w become data columns u and v, mixed: the first what is left of H, the second what is left of S plus D, row r of it from
 // diagonal r + v, when the other columns are taken out. x is room for a cell, which becomes S.
 fn mix(s: &[u8], w: &mut [u8], x: &mut [u8], g: Grid, k: usize, u: usize, v: usize)
     requires { ⌜ (length (now x) ≡ g .b) × Ready (g .m) k (g .b) (g .column) (length (now s)) (length (now w)) × (g .m % 2 ≡ 1) × (u < v) × (v < k) ⌝ }
     ensures { λ _. ⌜ Mixes (g .m) k (g .b) u v (now (s .entry)) (now (w .entry)) (now (w .exit)) ⌝ }
 {
-    let rows = g.m - 1;
-    let second = g.column;
-    let e = lines::group_but(0, k, u, v);
     total(x, w, s, g, k);
-    seeded::set_first(w, 0, &s[0..0], s, g, 0, 0, rows, k, e, u, v);
-    seeded::set_first(w, second, x, s, g, 1, v, rows, k + 1, e, u, v);
-    fill::fill_both(w, s, g, v, e, k, u, v);
+    put_both(w, x, s, g, k, v, u, v);
 }
 
 // Data columns u and v.
@@ -201,7 +221,7 @@ fn add_turned(w: &mut [u8], g: Grid, u: usize)
 }
 
 // Data column u and D: column u from the rows, and then D from the diagonals, to which column u, now in the first half, is added.
-fn data_and_d(s: &[u8], w: &mut [u8], x: &mut [u8], g: Grid, k: usize, u: usize)
+fn d_after(s: &[u8], w: &mut [u8], x: &mut [u8], g: Grid, k: usize, u: usize)
     requires { ⌜ (length (now x) ≡ g .b) × Ready (g .m) k (g .b) (g .column) (length (now s)) (length (now w)) × (u < k) ⌝ }
     ensures { λ _. ⌜ TwoRestored (g .m) k (g .b) u (k + 1) (now (s .entry)) (now (w .entry)) (now (w .exit)) ⌝ }
 {
@@ -214,14 +234,62 @@ fn data_and_d(s: &[u8], w: &mut [u8], x: &mut [u8], g: Grid, k: usize, u: usize)
     add_turned(w, g, u);
 }
 
+// Adds the cell of the first half at `from` to each cell of the second.
+fn add_to_each(w: &mut [u8], g: Grid, from: usize)
+    requires { ⌜ (length (now w) ≡ 2 * g .column) × Sized (g .m) (g .b) (g .column) × (from + g .b ≤ g .column) ⌝ }
+    ensures { λ _. ⌜ Lined (g .m - 1) (g .b) (g .column) (now (w .entry)) (now (w .exit)) (λ r l. getD (now (w .entry)) (g .column + (r * g .b + l)) 0 ⊕ getD (now (w .entry)) (from + l) 0) ⌝ }
+{
+    let b = g.b;
+    let second = g.column;
+    for r in 0..g.m - 1 {
+        cells::add_within(w, second + r * b, from, b);
+    }
+}
+
+// Adds row m - 1 - u of the first half to each row of the second: where column u stands there, its cell on diagonal m - 1. Row m - 1 is zero.
+fn add_crossing(w: &mut [u8], g: Grid, u: usize)
+    requires { ⌜ (length (now w) ≡ 2 * g .column) × Sized (g .m) (g .b) (g .column) × (u < g .m) ⌝ }
+    ensures { λ _. ⌜ Lined (g .m - 1) (g .b) (g .column) (now (w .entry)) (now (w .exit)) (λ r l. getD (now (w .entry)) (g .column + (r * g .b + l)) 0 ⊕ real (g .m) (lane (g .m) (g .b) (now (w .entry)) l) (g .m - 1 - u) 0) ⌝ }
+{
+    let m = g.m;
+    let b = g.b;
+    if 0 < u {
+        add_to_each(w, g, (m - 1 - u) * b);
+    }
+}
+
+// The same as `d_after`, for very short columns: both halves at once, and then column u is added to the diagonals, that of S among them.
+fn d_at_once(s: &[u8], w: &mut [u8], x: &mut [u8], g: Grid, k: usize, u: usize)
+    requires { ⌜ (length (now x) ≡ g .b) × Ready (g .m) k (g .b) (g .column) (length (now s)) (length (now w)) × (u < k) ⌝ }
+    ensures { λ _. ⌜ TwoRestored (g .m) k (g .b) u (k + 1) (now (s .entry)) (now (w .entry)) (now (w .exit)) ⌝ }
+{
+    let m = g.m;
+    set_diagonal(x, s, g, k, m - 1, u, k + 1);
+    put_both(w, x, s, g, k, 0, u, k + 1);
+    add_crossing(w, g, u);
+    add_turned(w, g, u);
+}
+
+// Data column u and D, in the way that suits the columns.
+fn data_and_d(s: &[u8], w: &mut [u8], x: &mut [u8], g: Grid, k: usize, u: usize)
+    requires { ⌜ (length (now x) ≡ g .b) × Ready (g .m) k (g .b) (g .column) (length (now s)) (length (now w)) × (u < k) ⌝ }
+    ensures { λ _. ⌜ TwoRestored (g .m) k (g .b) u (k + 1) (now (s .entry)) (now (w .entry)) (now (w .exit)) ⌝ }
+{
+    if g.column < 64 {
+        d_at_once(s, w, x, g, k, u);
+    } else {
+        d_after(s, w, x, g, k, u);
+    }
+}
+
 // H and D, as the data columns give them.
 fn h_and_d(s: &[u8], w: &mut [u8], x: &mut [u8], g: Grid, k: usize)
     requires { ⌜ (length (now x) ≡ g .b) × Ready (g .m) k (g .b) (g .column) (length (now s)) (length (now w)) ⌝ }
     ensures { λ _. ⌜ TwoRestored (g .m) k (g .b) k (k + 1) (now (s .entry)) (now (w .entry)) (now (w .exit)) ⌝ }
 {
-    let second = g.column;
-    set_rows(w, 0, s, g, k, k, k + 1);
-    put_d(w, second, x, s, g, k, k, k + 1);
+    let m = g.m;
+    set_diagonal(x, s, g, k, m - 1, k, k + 1);
+    put_both(w, x, s, g, k, 0, k, k + 1);
 }
 
 // Columns u and v, by kind. x is room for a cell.

@@ -46,7 +46,7 @@ module _ (m b u v : ℕ) (s : List ℕ) where
   abbrev pub rowAt : ℕ → ℕ → ℕ → ℕ → ℕ
   rowAt x y r l = span m (blank u v (lane m b s l)) 0 r x y
 
-  abbrev pub cellBut : ℕ → ℕ → ℕ → ℕ → ℕ → ℕ
+  abbrev cellBut : ℕ → ℕ → ℕ → ℕ → ℕ → ℕ
   cellBut e d t r l = real m (blank u v (lane m b s l)) (back m ((r + d) % m) (e * t)) t
 
   abbrev pub Swept : ℕ → ℕ → ℕ → ℕ → List ℕ → List ℕ → ℕ → ℕ → Type 0

@@ -24,7 +24,7 @@ returns : tie.Need-returns
 returns c =
     let z = c .before .before .before .before .before .before .before .before .before .before .before .before in
     let a = z .args in
-    d-set (a .g .m) (a .g .b) (a .u) (a .v) (now (a .s)) (a .k) (z .pre .2 .sized .big) (c .before .before .before .before .before .before .before .set-diagonal .ensures) (c .before .before .set-diagonals .ensures)
+    d-set (a .g .m) (a .g .b) (a .u) (a .v) (now (a .s)) (a .k) (z .pre .1 .sized .big) (c .before .before .before .before .before .before .before .set-diagonal .ensures) (c .before .before .set-diagonals .ensures)
 
 pub put-d-spec : {M : Type 1} → statement M
 put-d-spec =

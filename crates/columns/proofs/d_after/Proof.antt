@@ -1,10 +1,10 @@
--- `columns::data_and_d` meets its contract: column u from the rows, and D from the diagonals once column u is known.
+-- `columns::d_after` meets its contract: column u from the rows, and D from the diagonals once column u is known.
 use denote.Ref.{now}
-use Rattle.columns.proofs.Steps.{data-d}
+use Rattle.columns.proofs.Steps.{d-after}
 use native.Mathlib.Omega.{arith}
 use borrow.Author.Needs.{needs}
-use Rattle.columns.proofs.data_and_d.Statement.{statement}
-use Rattle.columns.proofs.data_and_d.Tie as tie
+use Rattle.columns.proofs.d_after.Statement.{statement}
+use Rattle.columns.proofs.d_after.Tie as tie
 
 add-set-rows : tie.Need-add-set-rows
 add-set-rows c = search needs
@@ -52,10 +52,10 @@ returns : tie.Need-returns
 returns c =
     let z = c .before .before .before .before .before .before .before .before .before .before .before .before .before .before .before .before .before .before .before .before .before .before .before .before .before in
     let a = z .args in
-    data-d (a .g .m) (a .k) (a .g .b) (now (a .s)) (now (a .w)) (z .pre .1) (a .u) (z .pre .2) (c .before .before .before .before .before .before .before .before .before .before .before .before .before .before .before .before .before .before .before .before .set-rows .ensures) (c .before .before .before .before .before .before .before .before .before .before .before .before .before .before .before .before .set-diagonal .ensures) (omega (arith, z .pre .0, c .before .before .before .before .before .before .before .before .before .before .before .before .before .before .before .before .set-diagonal .ensures .size)) (c .before .before .before .before .before .before .before .before .before .before .before .add-cell .ensures) (c .before .before .before .before .before .before .set-diagonals .ensures) (c .before .before .add-turned .ensures)
+    d-after (a .g .m) (a .k) (a .g .b) (now (a .s)) (now (a .w)) (z .pre .1) (a .u) (z .pre .2) (c .before .before .before .before .before .before .before .before .before .before .before .before .before .before .before .before .before .before .before .before .set-rows .ensures) (c .before .before .before .before .before .before .before .before .before .before .before .before .before .before .before .before .set-diagonal .ensures) (omega (arith, z .pre .0, c .before .before .before .before .before .before .before .before .before .before .before .before .before .before .before .before .set-diagonal .ensures .size)) (c .before .before .before .before .before .before .before .before .before .before .before .add-cell .ensures) (c .before .before .before .before .before .before .set-diagonals .ensures) (c .before .before .add-turned .ensures)
 
-pub data-and-d-spec : {M : Type 1} → statement M
-data-and-d-spec =
+pub d-after-spec : {M : Type 1} → statement M
+d-after-spec =
     tie.close
     (tie.spec
     add-set-rows
