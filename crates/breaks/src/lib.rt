@@ -255,7 +255,23 @@ fn grow_lines(
     }
 }
 
-// Of the first n cells of w each cell r becomes the cell sum plus line first + r, in groups of at most eight data columns.
+// Where a group of columns that begins at t ends: at most eight, and four where a data column u is left out, for then a line has two cells in
+// each column. So few streams are read at once.
+fn group_of(t: usize, k: usize, u: usize) -> usize
+    requires { ⌜ (t < k) × (k ≤ 129) ⌝ }
+    ensures { λ e. ⌜ (t < e) × (e ≤ k) × (e ≤ t + 8) ⌝ }
+{
+    let e = lines::group_end(t, k);
+    if k <= u {
+        return e;
+    }
+    if t + 4 < e {
+        return t + 4;
+    }
+    e
+}
+
+// Of the first n cells of w each cell r becomes the cell sum plus line first + r, in groups of data columns.
 fn grow_band(
     at: &mut [usize],
     w: &mut [u8],
@@ -270,10 +286,10 @@ fn grow_band(
     requires { ⌜ (n * g .b ≤ length (now w)) × (length (now sum) ≡ g .b) × (18 ≤ length (now at)) × (first + n ≤ g .m) × (9 ≤ k) × (k ≤ g .m) × Sized (g .m) (g .b) (g .column) × (length (now s) ≡ (k + 2) * g .column) ⌝ }
     ensures { λ _. ⌜ Lined n (g .b) 0 (now (w .entry)) (now (w .exit)) (λ r l. getD (now (sum .entry)) l 0 ⊕ lineBut (g .m) k (lane (g .m) (g .b) (now (s .entry)) l) u (first + r)) ⌝ }
 {
-    let mut t = lines::group_end(0, k);
+    let mut t = group_of(0, k, u);
     grow_lines(at, w, sum, true, s, g, k, u, first, n, 0, t);
     while t < k {
-        let e = lines::group_end(t, k);
+        let e = group_of(t, k, u);
         grow_lines(at, w, sum, false, s, g, k, u, first, n, t, e);
         t = e;
     }
@@ -379,12 +395,19 @@ fn count_many(s: &[u8], g: Grid, k: usize, u: usize) -> usize
     count_banded(&mut at, &mut band, &mut sum[0..b], s, g, k, u)
 }
 
-// How many of lines 0 to m - 2 differ from line m - 1: by places, where cells are long.
+// How many of lines 0 to m - 2 differ from line m - 1: by places, where cells are long. The cells of a line stand whole columns apart; of cells
+// longer than 512 bytes more than a dozen drive one another out of a small cache.
 pub fn count_long(s: &[u8], g: Grid, k: usize, u: usize) -> usize
     requires { ⌜ (k ≤ g .m) × Sized (g .m) (g .b) (g .column) × (length (now s) ≡ (k + 2) * g .column) × (128 ≤ g .b) ⌝ }
     ensures { λ r. ⌜ r ≡ breaking (g .m - 1) (g .b) (λ l d. lineBut (g .m) k (lane (g .m) (g .b) (now (s .entry)) l) u (g .m - 1) ⊕ lineBut (g .m) k (lane (g .m) (g .b) (now (s .entry)) l) u d) ⌝ }
 {
-    if k <= 32 {
+    if 32 < k {
+        return count_many(s, g, k, u);
+    }
+    if k <= 12 {
+        return count_few(s, g, k, u);
+    }
+    if g.b <= 512 {
         return count_few(s, g, k, u);
     }
     count_many(s, g, k, u)

@@ -20,43 +20,43 @@ Inv-loop at₀ w₀ sum s g k u first n t₀ at w t =
 abbrev μ-loop : tie.MeasureT-loop
 μ-loop at₀ w₀ sum s g k u first n t₀ at w t = k - t
 
-group-end-requires : tie.Need-group-end-requires Inv-loop μ-loop
-group-end-requires c κs = search needs
+group-of-requires : tie.Need-group-of-requires Inv-loop μ-loop
+group-of-requires c κs = search needs
 
 grow-lines-requires : tie.Need-grow-lines-requires Inv-loop μ-loop
 grow-lines-requires c κs =
     let z = c .before .before .before .before .before .before .before in
-    let e = c .before .before .group-end .ensures in
+    let e = c .before .before .group-of .ensures in
     (z .pre .0, z .pre .1, omega (arith, z .pre .2, e .2), z .pre .3, omega arith, e .1, z .pre .5, z .pre .6, z .pre .7)
 
 loop-holds : tie.Need-loop-holds Inv-loop μ-loop
 loop-holds c =
     let z = c .before .before .before .before .before .before .before .before .before .before .before .before in
     let a = z .args in
-    let e = c .before .before .before .before .before .before .before .group-end in
+    let e = c .before .before .before .before .before .before .before .group-of in
     (e .ensures .1, search needs, grown-none (a .n) (a .g .b) 0 _ _ (λ r l. window-none (a .g .m) (a .k) (lane (a .g .m) (a .g .b) (now (a .s)) l) (a .u) (a .first + r) (e .result) (omega (arith, z .pre .4, e .ensures .2))))
 
-group-end-requires-2 : tie.Need-group-end-requires-2 Inv-loop μ-loop
-group-end-requires-2 c κs = search needs
+group-of-requires-2 : tie.Need-group-of-requires-2 Inv-loop μ-loop
+group-of-requires-2 c κs = search needs
 
 grow-lines-requires-2 : tie.Need-grow-lines-requires-2 Inv-loop μ-loop
 grow-lines-requires-2 c κs =
     let z = c .before .before .before .before .before .before .before .before .before .before .before .before .before .before .before .before .before in
     let x = c .before .before .before .before .before .before .before .before .before .grow-lines in
     let y = c .before .before .before .before .loop .inv in
-    let e = c .before .before .group-end2 .ensures in
+    let e = c .before .before .group-of2 .ensures in
     (omega (arith, z .pre .0, x .ensures .size, y .2 .size), z .pre .1, omega (arith, z .pre .2, x .kept, y .1, e .2), z .pre .3, omega (arith, e .0), e .1, z .pre .5, z .pre .6, z .pre .7)
 
 loop-less : tie.Need-loop-less Inv-loop μ-loop
-loop-less c = omega (arith, c .before .before .before .before .before .before .before .group-end2 .ensures)
+loop-less c = omega (arith, c .before .before .before .before .before .before .before .group-of2 .ensures)
 
 loop-again : tie.Need-loop-again Inv-loop μ-loop
 loop-again c =
     let a = c .before .before .before .before .before .before .before .before .before .before .before .before .before .before .before .before .before .before .before .before .before .before .args in
     let x = c .before .before .before .before .before .before .before .before .before .before .before .before .before .before .grow-lines in
     let y = c .before .before .before .before .before .before .before .before .before .loop in
-    let p = c .before .before .before .before .before .before .before .before .before .before .before .before .before .before .before .before .before .group-end .result in
-    let e = c .before .before .before .before .before .before .before .group-end2 in
+    let p = c .before .before .before .before .before .before .before .before .before .before .before .before .before .before .before .before .before .group-of .result in
+    let e = c .before .before .before .before .before .before .before .group-of2 in
     let z = c .before .before .before .before .grow-lines2 in
     let f : ℕ → ℕ → ℕ → ℕ → ℕ = λ p q r l. windowBut (a .g .m) (a .k) (lane (a .g .m) (a .g .b) (now (a .s)) l) (a .u) (a .first + r) p q in (
       e .ensures .1,
@@ -77,7 +77,7 @@ returns c =
     let a = z .args in
     let x = c .before .before .before .before .before .before .grow-lines in
     let y = c .before .loop in
-    let p = c .before .before .before .before .before .before .before .before .before .group-end in
+    let p = c .before .before .before .before .before .before .before .before .before .group-of in
     let e : y .t ≡ a .k = omega (arith, y .inv .0, c .loop-test .left) in
     let f : ℕ → ℕ → ℕ → ℕ → ℕ = λ p q r l. windowBut (a .g .m) (a .k) (lane (a .g .m) (a .g .b) (now (a .s)) l) (a .u) (a .first + r) p q in
     band-more (a .n) (a .g .b) (now (a .sum)) (now (a .w)) (f 0 (p .result)) (f (p .result) (y .t)) (λ r l. lineBut (a .g .m) (a .k) (lane (a .g .m) (a .g .b) (now (a .s)) l) (a .u) (a .first + r))
@@ -91,10 +91,10 @@ grow-band-spec =
     (tie.spec
     Inv-loop
     μ-loop
-    group-end-requires
+    group-of-requires
     grow-lines-requires
     loop-holds
-    group-end-requires-2
+    group-of-requires-2
     grow-lines-requires-2
     loop-less
     loop-again
