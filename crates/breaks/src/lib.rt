@@ -395,8 +395,9 @@ fn count_many(s: &[u8], g: Grid, k: usize, u: usize) -> usize
     count_banded(&mut at, &mut band, &mut sum[0..b], s, g, k, u)
 }
 
-// How many of lines 0 to m - 2 differ from line m - 1: by places, where cells are long. The cells of a line stand whole columns apart; of cells
-// longer than 512 bytes more than a dozen drive one another out of a small cache.
+// How many of lines 0 to m - 2 differ from line m - 1: by places, where cells are long. Lines of a small stripe are summed at once. Of a stripe
+// too large for a near cache this is slow with many columns, since a machine fetches only so many streams ahead; where a data column u is
+// left out, a line has two cells in each column.
 pub fn count_long(s: &[u8], g: Grid, k: usize, u: usize) -> usize
     requires { ⌜ (k ≤ g .m) × Sized (g .m) (g .b) (g .column) × (length (now s) ≡ (k + 2) * g .column) × (128 ≤ g .b) ⌝ }
     ensures { λ r. ⌜ r ≡ breaking (g .m - 1) (g .b) (λ l d. lineBut (g .m) k (lane (g .m) (g .b) (now (s .entry)) l) u (g .m - 1) ⊕ lineBut (g .m) k (lane (g .m) (g .b) (now (s .entry)) l) u d) ⌝ }
@@ -404,11 +405,16 @@ pub fn count_long(s: &[u8], g: Grid, k: usize, u: usize) -> usize
     if 32 < k {
         return count_many(s, g, k, u);
     }
-    if k <= 12 {
+    if s.len() <= 262144 {
         return count_few(s, g, k, u);
     }
-    if g.b <= 512 {
+    if k <= 8 {
         return count_few(s, g, k, u);
+    }
+    if k <= u {
+        if k <= 10 {
+            return count_few(s, g, k, u);
+        }
     }
     count_many(s, g, k, u)
 }
