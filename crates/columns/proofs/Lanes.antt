@@ -1,7 +1,6 @@
 -- One lane: a is a lane whose equations hold, and s has what a has in the columns that are present, all but u and v. What is left of the rows
 -- and the diagonals of s is what a has in the absent columns.
 --   back-across, back-here    the row of a diagonal in a column
---   cells-span                rows over two columns
 --   row-of-one, row-of-both   what is left of a row where only column u crosses it, and where both do
 --   diagonal-of-both          what is left of a diagonal where both are data columns
 --   diagonal-of-one           where u is a data column, and v is H
@@ -21,9 +20,8 @@ use Rattle.parity.proofs.Sum.{sum-cong, sum-add}
 use Rattle.parity.proofs.Diagonals.{S-total}
 use Rattle.lines.specs.Lines.{real, span, ended}
 use Rattle.lines.specs.Places.{blank}
-use Rattle.lines.proofs.Lines.{real-in, span-more, span-agree}
-use Rattle.lines.proofs.Equations.{row-at}
-use Rattle.lines.proofs.Amounts.{cell-span}
+use Rattle.lines.proofs.Lines.{real-in, span-agree}
+use Rattle.totals.proofs.Totals.{cells-span}
 use Rattle.lines.proofs.Ended.{crossing, row-crossing, row-clear, diagonal-crossing, diagonal-end, diagonal-clear, rows-left, diagonals-left}
 
 -- ---- lines of any lane
@@ -39,11 +37,6 @@ back-here : (m r u : ℕ) → r < m → u ≤ m → back m ((r + u) % m) (1 * u)
 back-here m r u h low =
     let e : r + (u - u) ≡ r = omega arith in
     back-across m r u u (omega arith) low ∙ ap (λ (x : ℕ). x % m) e ∙ mod-eq-of-lt h
-
-pub cells-span : (m : ℕ) (a : Lane) (i k : ℕ) → i < m → span m a 0 i k (k + 2) ≡ real m a i k ⊕ real m a i (k + 1)
-cells-span m a i k h =
-    let e : k + 2 ≡ k + 1 + 1 = omega arith in
-    ap (span m a 0 i k) e ∙ sym (span-more m a 0 i k (k + 1)) ∙ ap₂ _⊕_ (cell-span m a i k h) (ap (λ (r : ℕ). real m a r (k + 1)) (row-at m i (k + 1) h))
 
 -- ---- where the equations of a hold
 

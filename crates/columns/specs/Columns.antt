@@ -1,6 +1,5 @@
 -- What stands in the bench, a buffer of two columns, when one or two absent columns of a stripe s were restored to it. Nothing is said of
 -- how: if a valid stripe agrees with s in the columns that are present, the halves of the bench hold that stripe's absent columns.
---   Ready m k b c p q          the numbers of a shape, a stripe of p bytes and a bench of q bytes; a column has c
 --   SameBut m k b u s r        r has what s has in every column but u
 --   SameButTwo m k b u u′ s r  the same of every column but u and u′
 --   OneRestored …              w became v: its first half is column u, its second half is as it was
@@ -8,17 +7,10 @@
 use mathlib.Core.Path.{_≡_}
 use mathlib.Core.Logic.{_≢_}
 use mathlib.Core.List.{List}
-use Prim.Native.Nat.{ℕ, _+_, _-_, _*_, _≤_, _<_}
+use Prim.Native.Nat.{ℕ, _+_, _-_, _<_}
 use lib.ListN.{length}
 use Rattle.parity.specs.Stripe.{byte, Valid}
-use Rattle.lines.specs.Lines.{Sized}
-
-pub record Ready (m k b c p q : ℕ) : Type 0 where
-  pub sized : Sized m b c
-  pub some : 1 ≤ k
-  pub few : k ≤ m
-  pub stripe : p ≡ (k + 2) * c
-  pub bench : q ≡ 2 * c
+pub use Rattle.totals.specs.Ready.{Ready}
 
 abbrev pub SameBut : ℕ → ℕ → ℕ → ℕ → List ℕ → List ℕ → Type 0
 SameBut m k b u s r = (l i t : ℕ) → l < b → i < m - 1 → t < k + 2 → t ≢ u → byte m b s l i t ≡ byte m b r l i t

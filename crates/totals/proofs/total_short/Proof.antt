@@ -1,4 +1,4 @@
--- `columns::total_short` meets its contract: D is added to H, the lower cells to the upper ones, and these are taken for a row.
+-- `totals::total_short` meets its contract: D is added to H, the lower cells to the upper ones, and these are taken for a row.
 use mathlib.Core.Path.{_≡_, refl, sym, ap, _∙_}
 use mathlib.Core.List.{List}
 use Prim.Native.Nat.{ℕ, _+_, _*_, _-_, _/_}
@@ -13,10 +13,10 @@ use Rattle.cells.proofs.Puts.{put-same, put-count, put-part}
 use Rattle.lines.specs.Lines.{span}
 use Rattle.lines.proofs.Seeds.{seed-fresh}
 use Rattle.lines.proofs.Whole.{one-row, seed-none, no-seed}
-use Rattle.columns.proofs.Totals.{row-crosses-all, twice, column-twice, halves-sum}
+use Rattle.totals.proofs.Totals.{row-crosses-all, twice, column-twice, halves-sum}
 use borrow.Author.Needs.{needs}
-use Rattle.columns.proofs.total_short.Statement.{statement}
-use Rattle.columns.proofs.total_short.Tie as tie
+use Rattle.totals.proofs.total_short.Statement.{statement}
+use Rattle.totals.proofs.total_short.Tie as tie
 
 sub-n : tie.Need-sub-n
 sub-n c = search needs

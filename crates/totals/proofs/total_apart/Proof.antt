@@ -1,4 +1,4 @@
--- `columns::total_apart` meets its contract: column H taken for a row, and then column D.
+-- `totals::total_apart` meets its contract: column H taken for a row, and then column D.
 use mathlib.Core.Path.{refl, sym, ap, ap₂, _∙_}
 use Prim.Native.Nat.{ℕ, _+_, _*_, _-_}
 use native.Mathlib.Omega.{arith}
@@ -11,11 +11,11 @@ use Rattle.lines.specs.Lines.{span}
 use Rattle.lines.proofs.Lines.{column-is}
 use Rattle.lines.proofs.Seeds.{seed-fresh, seed-kept}
 use Rattle.lines.proofs.Whole.{one-row, seed-none, no-seed}
-use Rattle.columns.proofs.Totals.{row-crosses-all, column-sum, both-columns}
+use Rattle.totals.proofs.Totals.{row-crosses-all, column-sum, both-columns}
 use borrow.Author.Needs.{needs}
 use native.Mathlib.Omega.{arith}
-use Rattle.columns.proofs.total_apart.Statement.{statement}
-use Rattle.columns.proofs.total_apart.Tie as tie
+use Rattle.totals.proofs.total_apart.Statement.{statement}
+use Rattle.totals.proofs.total_apart.Tie as tie
 
 sub-cells : tie.Need-sub-cells
 sub-cells c = search needs

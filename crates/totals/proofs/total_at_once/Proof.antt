@@ -1,4 +1,4 @@
--- `columns::total_at_once` meets its contract: H and D taken for one row.
+-- `totals::total_at_once` meets its contract: H and D taken for one row.
 use mathlib.Core.Path.{refl, sym, ap, _∙_}
 use Prim.Native.Nat.{ℕ, _+_, _*_, _-_}
 use native.Mathlib.Omega.{arith}
@@ -11,10 +11,10 @@ use Rattle.lines.specs.Lines.{span}
 use Rattle.lines.proofs.Lines.{column-is}
 use Rattle.lines.proofs.Seeds.{seed-fresh}
 use Rattle.lines.proofs.Whole.{one-row, seed-none, no-seed}
-use Rattle.columns.proofs.Totals.{row-crosses-all, two-sum, both-columns}
+use Rattle.totals.proofs.Totals.{row-crosses-all, two-sum, both-columns}
 use borrow.Author.Needs.{needs}
-use Rattle.columns.proofs.total_at_once.Statement.{statement}
-use Rattle.columns.proofs.total_at_once.Tie as tie
+use Rattle.totals.proofs.total_at_once.Statement.{statement}
+use Rattle.totals.proofs.total_at_once.Tie as tie
 
 sub-cells : tie.Need-sub-cells
 sub-cells c = search needs
