@@ -77,7 +77,8 @@ pub fn restore_one(s: &[u8], w: &mut [u8], g: Grid, k: usize, u: usize)
     }
 }
 
-// Where the first group of the columns but u and v ends, of which the lines are set. Very short columns are better all added.
+// Where the columns end by which both halves are set, before the others are added: a group of those but u and v, or none where columns are very
+// short.
 fn first_group(g: Grid, k: usize, u: usize, v: usize) -> usize
     requires { ⌜ k ≤ 129 ⌝ }
     ensures { λ e. ⌜ (e ≤ k) × (e ≤ 10) ⌝ }
@@ -174,7 +175,8 @@ fn add_to_each(w: &mut [u8], g: Grid, from: usize)
     }
 }
 
-// Adds row m - 1 - u of the first half to each row of the second: where column u stands there, its cell on diagonal m - 1. Row m - 1 is zero.
+// Adds row m - 1 - u of the first half to each row of the second: where column u stands there, its cell on diagonal m - 1. Row m - 1, which it
+// is for u = 0, adds nothing.
 fn add_crossing(w: &mut [u8], g: Grid, u: usize)
     requires { ⌜ (length (now w) ≡ 2 * g .column) × Sized (g .m) (g .b) (g .column) × (u < g .m) ⌝ }
     ensures { λ _. ⌜ Lined (g .m - 1) (g .b) (g .column) (now (w .entry)) (now (w .exit)) (λ r l. getD (now (w .entry)) (g .column + (r * g .b + l)) 0 ⊕ real (g .m) (lane (g .m) (g .b) (now (w .entry)) l) (g .m - 1 - u) 0) ⌝ }
@@ -186,7 +188,8 @@ fn add_crossing(w: &mut [u8], g: Grid, u: usize)
     }
 }
 
-// The same as `d_after`, for very short columns: both halves at once, and then column u is added to the diagonals, that of S among them.
+// The same as `d_after`, faster where columns are very short: both halves at once. S then lacks the cell of column u, which is added to each row
+// once it is there.
 fn d_at_once(s: &[u8], w: &mut [u8], x: &mut [u8], g: Grid, k: usize, u: usize)
     requires { ⌜ (length (now x) ≡ g .b) × Ready (g .m) k (g .b) (g .column) (length (now s)) (length (now w)) × (u < k) ⌝ }
     ensures { λ _. ⌜ TwoRestored (g .m) k (g .b) u (k + 1) (now (s .entry)) (now (w .entry)) (now (w .exit)) ⌝ }

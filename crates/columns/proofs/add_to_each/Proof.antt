@@ -1,4 +1,5 @@
 -- `columns::add_to_each` meets its contract. The invariant: the rows before r have the cell added, which itself is as it was.
+use mathlib.Core.Path.{ap}
 use Prim.Native.Nat.{ℕ, _+_, _*_, _-_, _≤_}
 use lib.ListN.{getD}
 use denote.Ref.{now}
@@ -9,7 +10,6 @@ use Rattle.lines.proofs.Lines.{column-is}
 use Rattle.fill.proofs.Rows.{Grown, lined-none, lined-count, grown-more}
 use borrow.Author.Needs.{needs}
 use native.Mathlib.Omega.{arith}
-use mathlib.Core.Path.{ap}
 use Rattle.columns.proofs.add_to_each.Statement.{statement}
 use Rattle.columns.proofs.add_to_each.Tie as tie
 

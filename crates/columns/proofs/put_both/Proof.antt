@@ -66,7 +66,7 @@ fill-both-requires c κs =
       omega (arith, c .before .before .before .before .before .before .before .set-first .ensures .size, c .before .before .before .set-first2 .ensures .size, y .bench),
       z .pre .1,
       y .sized,
-      diagonal-crosses (y .sized) (y .few) (y .stripe) (omega (arith, y .sized .big)) (c .before .before .before .before .before .before .before .before .before .before .first-group .ensures .0) (omega arith),
+      diagonal-crosses (y .sized) (y .few) (y .stripe) (omega (arith, y .sized .big)) (omega (arith, c .before .before .before .before .before .before .before .before .before .before .first-group .ensures .0)) (omega arith),
     )
 
 same-length : tie.Need-same-length
