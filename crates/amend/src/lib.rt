@@ -25,7 +25,7 @@ fn correct(s: &mut [u8], x: &[u8], y: &[u8], g: Grid, k: usize, u: usize)
     }
 }
 
-// The wrong column, where cells are short. x, y and z are room for columns, and sum for a cell.
+// Locates the wrong column, where cells are short, and sets it right. x, y and z are room for columns, and sum for a cell.
 fn amend_in(
     x: &mut [u8],
     y: &mut [u8],
@@ -114,7 +114,7 @@ fn amend_large(s: &mut [u8], g: Grid, k: usize) -> Suspect
     )
 }
 
-// The wrong column, where cells are long.
+// The same where cells are long.
 fn amend_long(s: &mut [u8], g: Grid, k: usize) -> Suspect
     requires { ⌜ (128 ≤ g .b) × (1 ≤ k) × Sized (g .m) (g .b) (g .column) × (k ≤ g .m) × (g .m % 2 ≡ 1) × Prime (g .m) × (length (now s) ≡ (k + 2) * g .column) ⌝ }
     ensures { λ r. ⌜ Patches (g .m) k (g .b) (now (s .entry)) (now (s .exit)) r ⌝ }
@@ -129,7 +129,7 @@ fn amend_long(s: &mut [u8], g: Grid, k: usize) -> Suspect
     }
 }
 
-// The wrong column. The answer is its number; Nothing, of a stripe that is sound; or Nobody.
+// Locates the wrong column, and sets it right. The answer is that column; Nothing, of a stripe that is sound; or Nobody.
 pub fn amend(s: &mut [u8], g: Grid, k: usize) -> Suspect
     requires { ⌜ Blamed g k (now s) ⌝ }
     ensures { λ r. ⌜ Patches (g .m) k (g .b) (now (s .entry)) (now (s .exit)) r ⌝ }
