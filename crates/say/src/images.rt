@@ -1,12 +1,12 @@
 // A line for each operation on an image, in the form `CASE OPERATION ANSWER`.
 use crate::operations::say_four;
 use crate::operations::say_last;
-use crate::writing::say_flat;
-use crate::writing::say_head;
-use crate::writing::say_map;
-use crate::writing::say_word;
 use image::Contents;
 use image::Read;
+use words::say_flat;
+use words::say_head;
+use words::say_map;
+use words::say_word;
 
 // The answer, the shape and the map of an image.
 fn say_contents(out: &mut [u8], at: usize, found: Contents) -> usize {

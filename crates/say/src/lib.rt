@@ -1,7 +1,6 @@
 // Lines of text that say what the library answers: for the program `numbers`. A line is written into a lent buffer.
 mod images;
 mod operations;
-mod writing;
 
 pub use images::contents_line;
 pub use images::read_line;
@@ -11,5 +10,3 @@ pub use operations::encode_line;
 pub use operations::mend_line;
 pub use operations::restore_line;
 pub use operations::show_line;
-pub use writing::say_bytes;
-pub use writing::say_word;

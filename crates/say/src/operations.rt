@@ -1,14 +1,14 @@
 // A line for each operation, in the form `CASE OPERATION ANSWER`.
-use crate::writing::say_bytes;
-use crate::writing::say_head;
-use crate::writing::say_number;
-use crate::writing::say_word;
 use evenodd::Checked;
 use evenodd::Encoded;
 use evenodd::Map;
 use evenodd::Mended;
 use evenodd::Place;
 use evenodd::Restored;
+use words::say_bytes;
+use words::say_head;
+use words::say_number;
+use words::say_word;
 
 // Two numbers.
 fn say_two(out: &mut [u8], at: usize, x: usize, y: usize) -> usize {

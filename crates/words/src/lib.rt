@@ -1,6 +1,6 @@
-// Lines of text in a lent buffer. Each function writes at a place and answers the place after it; where there is no room it writes nothing, and
+// Words, numbers, bytes and maps as text in a lent buffer. Each function writes at a place and answers the place after it; where there is no room it writes nothing, and
 // answers the place.
-use evenodd::Map;
+use inputs::Map;
 
 // The bytes of a word.
 pub fn say_word(out: &mut [u8], at: usize, word: &[u8]) -> usize {
@@ -14,13 +14,13 @@ pub fn say_word(out: &mut [u8], at: usize, word: &[u8]) -> usize {
 }
 
 // Two words: the name of a case, and what is asked.
-pub(crate) fn say_head(out: &mut [u8], at: usize, name: &[u8], asked: &[u8]) -> usize {
+pub fn say_head(out: &mut [u8], at: usize, name: &[u8], asked: &[u8]) -> usize {
     let next = say_word(out, at, name);
     say_word(out, next, asked)
 }
 
 // A space and a number, which is below 10,000.
-pub(crate) fn say_number(out: &mut [u8], at: usize, n: usize) -> usize {
+pub fn say_number(out: &mut [u8], at: usize, n: usize) -> usize {
     if 9999 < n {
         return at;
     }
@@ -67,7 +67,7 @@ fn say_place(out: &mut [u8], at: usize, there: bool) -> usize {
 }
 
 // A space and the 129 places of a map.
-pub(crate) fn say_map(out: &mut [u8], at: usize, map: Map) -> usize {
+pub fn say_map(out: &mut [u8], at: usize, map: Map) -> usize {
     let mut next = say_byte(out, at, 32);
     for t in 0..129 {
         next = say_place(out, next, map.is_present(t));
@@ -85,7 +85,7 @@ fn say_flat_byte(out: &mut [u8], at: usize, byte: u8) -> usize {
 }
 
 // A text on one line.
-pub(crate) fn say_flat(out: &mut [u8], at: usize, words: &[u8]) -> usize {
+pub fn say_flat(out: &mut [u8], at: usize, words: &[u8]) -> usize {
     let mut next = at;
     for i in 0..words.len() {
         next = say_flat_byte(out, next, words[i]);

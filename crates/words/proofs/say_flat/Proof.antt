@@ -1,10 +1,10 @@
--- `say::writing::say_flat` is safe: i stays within the text, and the buffer keeps its length.
+-- `words::say_flat` is safe: i stays within the text, and the buffer keeps its length.
 use mathlib.Core.Path.{_≡_}
 use Prim.Native.Nat.{_≤_, _-_}
 use lib.ListN.{length}
 use borrow.Author.Needs.{needs}
-use Rattle.say.proofs.writing.say_flat.Statement.{statement}
-use Rattle.say.proofs.writing.say_flat.Tie as tie
+use Rattle.words.proofs.say_flat.Statement.{statement}
+use Rattle.words.proofs.say_flat.Tie as tie
 
 abbrev Inv-loop : tie.InvT-loop
 Inv-loop out₀ at words next₀ i₀ i-end out next i = (i-end ≡ length words) × (i ≤ i-end) × (length out ≡ length out₀)

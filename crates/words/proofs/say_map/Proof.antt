@@ -1,10 +1,10 @@
--- `say::writing::say_map` is safe: t stays below 129, and the buffer keeps its length.
+-- `words::say_map` is safe: t stays below 129, and the buffer keeps its length.
 use mathlib.Core.Path.{_≡_}
 use Prim.Native.Nat.{_≤_, _-_}
 use lib.ListN.{length}
 use borrow.Author.Needs.{needs}
-use Rattle.say.proofs.writing.say_map.Statement.{statement}
-use Rattle.say.proofs.writing.say_map.Tie as tie
+use Rattle.words.proofs.say_map.Statement.{statement}
+use Rattle.words.proofs.say_map.Tie as tie
 
 abbrev Inv-loop : tie.InvT-loop
 Inv-loop out₀ at map next₀ t₀ out next t = (t ≤ 129) × (length out ≡ length out₀)

@@ -1,0 +1,147 @@
+// The document's cases C1 to C11. C1 is the stripe of m = 3, k = 3, b = 1 with the data 01 02, 04 08, 10 20.
+use evenodd::Map;
+use say::check_line;
+use say::encode_line;
+use say::mend_line;
+use say::restore_line;
+use words::say_bytes;
+use words::say_word;
+
+// The map of the five columns of C1, all present.
+pub fn five() -> Map {
+    Map::new()
+        .mark_present(0)
+        .mark_present(1)
+        .mark_present(2)
+        .mark_present(3)
+        .mark_present(4)
+}
+
+// The sum S, which is the sum of all cells of H and of D.
+fn sum_line(out: &mut [u8], at: usize, h0: u8, h1: u8, d0: u8, d1: u8) -> usize {
+    let first = say_word(out, at, b"C1 S");
+    let sum = [h0 ^ h1 ^ d0 ^ d1];
+    let second = say_bytes(out, first, &sum);
+    say_word(out, second, b"\n")
+}
+
+// C1 to C3: encode.
+pub fn encodings(out: &mut [u8], at: usize) -> usize {
+    let mut c1 = [1u8, 2, 4, 8, 16, 32, 0, 0, 0, 0];
+    let first = encode_line(out, at, b"C1", 3, 3, 1, &mut c1);
+    let second = sum_line(out, first, c1[6], c1[7], c1[8], c1[9]);
+    let mut c2 = [1u8, 2, 0, 0, 0, 0];
+    let third = encode_line(out, second, b"C2", 3, 1, 1, &mut c2);
+    let mut c3 = [
+        0u8,
+        0,
+        0,
+        0,
+        0,
+        0,
+        0,
+        1,
+        1,
+        0,
+        1,
+        1,
+        0,
+        0,
+        0,
+        1,
+        1,
+        1,
+        1,
+        0,
+        0,
+        0,
+        0,
+        0,
+        0,
+        0,
+        0,
+        0,
+    ];
+    encode_line(out, third, b"C3", 5, 5, 1, &mut c3)
+}
+
+// C4 and C5: restore two columns, whose bytes in the stripe are stale.
+pub fn two_absent(out: &mut [u8], at: usize) -> usize {
+    let c4 = [
+        255u8,
+        255,
+        255,
+        255,
+        0,
+        0,
+        0,
+        1,
+        255,
+        255,
+        255,
+        255,
+        0,
+        0,
+        0,
+        1,
+        1,
+        1,
+        1,
+        0,
+        0,
+        1,
+        0,
+        1,
+        1,
+        1,
+        0,
+        1,
+    ];
+    let mut bench4 = [0u8; 8];
+    let seven = five().mark_present(5).mark_present(6);
+    let first = restore_line(
+        out,
+        at,
+        b"C4",
+        5,
+        5,
+        1,
+        seven.mark_absent(0).mark_absent(2),
+        &c4,
+        &mut bench4,
+    );
+    let c5 = [255u8, 255, 4, 8, 255, 255, 21, 42, 57, 30];
+    let mut bench5 = [161u8, 162, 163, 164];
+    let map = five().mark_absent(0).mark_absent(2);
+    restore_line(out, first, b"C5", 3, 3, 1, map, &c5, &mut bench5)
+}
+
+// C6 to C8: C1 with 04 turned to 05.
+pub fn wrong_byte(out: &mut [u8], at: usize) -> usize {
+    let mut stripe = [1u8, 2, 5, 8, 16, 32, 21, 42, 57, 30];
+    let mut bench = [161u8, 162, 163, 164];
+    let one = five().mark_absent(0);
+    let first = restore_line(out, at, b"C6", 3, 3, 1, one, &stripe, &mut bench);
+    let two = one.mark_absent(2);
+    let second = restore_line(out, first, b"C7", 3, 3, 1, two, &stripe, &mut bench);
+    let third = check_line(out, second, b"C8", 3, 3, 1, &stripe);
+    mend_line(out, third, b"C8", 3, 3, 1, &mut stripe)
+}
+
+// C9: a wrong column that is none of the stripe's.
+pub fn imaginary_column(out: &mut [u8], at: usize) -> usize {
+    let mut c9 = [1u8, 2, 4, 8, 21, 10, 25, 30];
+    let next = check_line(out, at, b"C9", 3, 2, 1, &c9);
+    mend_line(out, next, b"C9", 3, 2, 1, &mut c9)
+}
+
+// C10 and C11: three columns absent, and an intact stripe.
+pub fn three_absent(out: &mut [u8], at: usize) -> usize {
+    let c1 = [1u8, 2, 4, 8, 16, 32, 21, 42, 57, 30];
+    let mut bench = [161u8, 162, 163, 164];
+    let map = five().mark_absent(0).mark_absent(1).mark_absent(2);
+    let first = restore_line(out, at, b"C10", 3, 3, 1, map, &c1, &mut bench);
+    let mut c11 = [0u8; 10];
+    let second = check_line(out, first, b"C11", 3, 3, 1, &c11);
+    mend_line(out, second, b"C11", 3, 3, 1, &mut c11)
+}
