@@ -21,7 +21,7 @@ use Rattle.parity.proofs.Diagonals.{S-total}
 use Rattle.lines.specs.Lines.{real, span, ended}
 use Rattle.lines.specs.Places.{blank}
 use Rattle.lines.proofs.Lines.{real-in, span-agree}
-use Rattle.totals.proofs.Totals.{cells-span}
+use Rattle.lines.proofs.Amounts.{cells-span}
 use Rattle.lines.proofs.Ended.{crossing, row-crossing, row-clear, diagonal-crossing, diagonal-end, diagonal-clear, rows-left, diagonals-left}
 
 -- ---- lines of any lane

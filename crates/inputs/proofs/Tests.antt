@@ -12,6 +12,7 @@ use Prim.Native.Nat.{ℕ, _+_, _*_, _≤_}
 use native.Mathlib.Omega.{arith}
 use Rattle.parity.specs.Shape.{Shape, columnLength, stripeLength, benchLength}
 use Rattle.parity.specs.Presence.{absences}
+use Rattle.parity.proofs.Shapes.{whole-stripe}
 use Rattle.marks.specs.declared.Gaps.{Gaps}
 use Rattle.marks.specs.Absent.{Counts}
 use Rattle.inputs.specs.declared.lent.Given.{Given}
@@ -51,8 +52,7 @@ pub record Numbers (m k b n c : ℕ) : Type 0 where
 
 -- and so the stripe's length, by the column's
 pub stripe-long : {m k b n c : ℕ} → Numbers m k b n c → n ≡ (k + 2) * c
-unfolding stripeLength
-stripe-long {k = k} p = p .stripe ∙ sym (ap (λ (x : ℕ). (k + 2) * x) (p .column))
+stripe-long {m} {k} {b} p = p .stripe ∙ sym (whole-stripe m k b (p .column))
 
 module _ (m k b n : ℕ) where
   numbers : {c : ℕ} → Gives (stripeTests m k b n) pass → c ≡ columnLength m b → Numbers m k b n c

@@ -1,9 +1,10 @@
 -- The amounts by which a lane's equations break, as the lines that the loops follow.
---   cell-span         a row over one column is one cell
+--   cell-span, cells-span   a row over one column is one cell, and over two columns two
 --   row-amount-line   the amount of row r is line r of slant 0 over the data columns and H; of the imaginary row both are zero
 --   diagonal-lines    the amount of diagonal i is S, line i of slant 1 and D's cell
 use mathlib.Core.Path.{_≡_, sym, ap, ap₂, _∙_}
 use Prim.Native.Nat.{ℕ, _+_, _-_, _≤_, _<_}
+use native.Mathlib.Omega.{arith}
 use Rattle.parity.specs.Xor.{_⊕_}
 use Rattle.parity.specs.Equations.{Lane, S, amountD}
 use Rattle.parity.proofs.Xor.{zero-⊕, xor}
@@ -18,6 +19,11 @@ module _ (m : ℕ) (a : Lane) where
   pub cell-span : (i t : ℕ) → i < m → span m a 0 i t (t + 1) ≡ real m a i t
   cell-span i t h =
       sym (span-more m a 0 i t t) ∙ ap₂ _⊕_ (span-none m a 0 i t) (ap (λ (r : ℕ). real m a r t) (row-at m i t h)) ∙ zero-⊕ (real m a i t)
+
+  pub cells-span : (i k : ℕ) → i < m → span m a 0 i k (k + 2) ≡ real m a i k ⊕ real m a i (k + 1)
+  cells-span i k h =
+      let e : k + 2 ≡ k + 1 + 1 = omega arith in
+      ap (span m a 0 i k) e ∙ sym (span-more m a 0 i k (k + 1)) ∙ ap₂ _⊕_ (cell-span i k h) (ap (λ (r : ℕ). real m a r (k + 1)) (row-at m i (k + 1) h))
 
   imaginary-row : (i n : ℕ) → i < m → m - 1 ≤ i → line m a 0 i n ≡ 0
   unfolding line

@@ -1,14 +1,15 @@
 -- Laws of a shape.
 --   accepted-prime, prime-accepted   the table, as the rule on m
 --   shape-dec, shape-of            whether three numbers are a shape is decided
+--   whole-stripe                   the bytes of a stripe, by those of a column
 --   column-most, places-most, parts-most    what is computed from a shape fits a number
-use mathlib.Core.Path.{_≡_, refl, sym, _∙_}
+use mathlib.Core.Path.{_≡_, refl, sym, ap, _∙_}
 use mathlib.Core.Bool.{Bool, true, false, true≢false}
 use Prim.Native.Nat.{ℕ, _+_, _*_, _≤_}
 use native.Mathlib.Nat.{mul-le-mul}
 use native.Mathlib.Decide.{decLe}
 use native.Mathlib.Omega.{arith}
-use Rattle.parity.specs.Shape.{OddPrime, accepted, member, Shape, columnLength}
+use Rattle.parity.specs.Shape.{OddPrime, accepted, member, Shape, columnLength, stripeLength}
 use Rattle.parity.specs.Theorems.{Table}
 use Rattle.parity.proofs.Table.{table}
 
@@ -33,6 +34,10 @@ shape-dec m k b = go (member m accepted) refl (decLe 1 k) (decLe k m) (decLe 1 b
 
 pub shape-of : (m k b : ℕ) → ((Shape m k b → ⊥) → ⊥) → Shape m k b
 shape-of m k b n = elim (shape-dec m k b) [ yes s ↦ s | no f ↦ absurd (n f) ]
+
+pub whole-stripe : (m k b : ℕ) {c : ℕ} → c ≡ columnLength m b → (k + 2) * c ≡ stripeLength m k b
+unfolding stripeLength
+whole-stripe m k b e = ap (λ (n : ℕ). (k + 2) * n) e
 
 pub column-most : {m k b : ℕ} → Shape m k b → columnLength m b ≤ 516096
 unfolding columnLength

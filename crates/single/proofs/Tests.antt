@@ -1,6 +1,5 @@
 -- Column u, a data column or H, and D were restored to a room x, which became y: the columns other than u fit exactly when D there is the D of s.
 -- z is y with the D of s added to its second half, and o is a bench w to whose first half that of z was copied.
---   whole-stripe       the bytes of a stripe, by those of a column
 --   fits, fits-none    all of the second half of z is zero
 --   restored           column u in the first half of o
 use mathlib.Core.Path.{_≡_, sym, ap, ap₂, _∙_}
@@ -10,7 +9,7 @@ use native.Mathlib.Nat.{mod-lt, mod-add-div', div-mul-le-self, mul-le-mul-right}
 use native.Mathlib.Omega.{arith}
 use lib.ListN.{getD}
 use Rattle.parity.specs.Xor.{_⊕_}
-use Rattle.parity.specs.Shape.{Shape, columnLength, stripeLength}
+use Rattle.parity.specs.Shape.{Shape, columnLength}
 use Rattle.parity.specs.Stripe.{byte, Stripe}
 use Rattle.parity.specs.Candidate.{FitsBut}
 use Rattle.parity.proofs.Xor.{⊕-self, ⊕-eq}
@@ -23,10 +22,6 @@ use Rattle.fill.proofs.Rows.{first-at, second-at, row-room}
 use Rattle.lines.proofs.Whole.{sized}
 use Rattle.lines.proofs.Cells.{at-row}
 use Rattle.columns.specs.Columns.{OneRestored, TwoRestored}
-
-pub whole-stripe : (m k b : ℕ) {c : ℕ} → c ≡ columnLength m b → (k + 2) * c ≡ stripeLength m k b
-unfolding stripeLength
-whole-stripe m k b e = ap (λ (n : ℕ). (k + 2) * n) e
 
 module _ (m k b : ℕ) {c : ℕ} (column : c ≡ columnLength m b) (h : Shape m k b) (s : List ℕ) (st : Stripe m k b s) (u : ℕ) (low : u ≤ k)
     (x y : List ℕ) (two : TwoRestored m k b u (k + 1) s x y) where

@@ -1,6 +1,5 @@
 -- A column taken for a row: a stripe of one row, whose columns are the column's cells.
 --   row-crosses-all              the numbers of that stripe
---   cells-span                   rows over two columns
 --   column-sum                   the sum of that row is the sum of the column's cells
 --   two-sum                      the same of two columns, one after the other
 --   twice, column-twice          half of a column's cells
@@ -20,15 +19,10 @@ use Rattle.parity.proofs.Sum.{sum-cong, sum-add, sum-join}
 use Rattle.cells.specs.Runs.{Put}
 use Rattle.cells.proofs.Parts.{part, part-at, parts-end}
 use Rattle.lines.specs.Lines.{real, line, span, Sized, Crosses}
-use Rattle.lines.proofs.Lines.{real-in, span-line, span-more, column-is}
+use Rattle.lines.proofs.Lines.{real-in, span-line, column-is}
 use Rattle.lines.proofs.Cells.{at-row}
 use Rattle.lines.proofs.Equations.{row-at}
-use Rattle.lines.proofs.Amounts.{cell-span}
-
-pub cells-span : (m : ℕ) (a : Lane) (i k : ℕ) → i < m → span m a 0 i k (k + 2) ≡ real m a i k ⊕ real m a i (k + 1)
-cells-span m a i k h =
-    let e : k + 2 ≡ k + 1 + 1 = omega arith in
-    ap (span m a 0 i k) e ∙ sym (span-more m a 0 i k (k + 1)) ∙ ap₂ _⊕_ (cell-span m a i k h) (ap (λ (r : ℕ). real m a r (k + 1)) (row-at m i (k + 1) h))
+use Rattle.lines.proofs.Amounts.{cells-span}
 
 -- a row of n cells that stand at p, within q bytes
 module _ (b : ℕ) (s : List ℕ) (p q n l : ℕ) (room : n * b ≤ q) (low : l < b) where

@@ -8,7 +8,8 @@ use denote.Ref.{now}
 use Rattle.parity.specs.Stripe.{Stripe}
 use Rattle.cells.proofs.Parts.{part-at}
 use Rattle.cells.proofs.Puts.{put-part, put-count}
-use Rattle.single.proofs.Tests.{whole-stripe, fits, fits-none, restored}
+use Rattle.parity.proofs.Shapes.{whole-stripe}
+use Rattle.single.proofs.Tests.{fits, fits-none, restored}
 use borrow.Author.Needs.{needs}
 use Rattle.single.proofs.try_in.Statement.{statement}
 use Rattle.single.proofs.try_in.Tie as tie
