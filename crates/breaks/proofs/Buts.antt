@@ -18,12 +18,12 @@ use Rattle.parity.proofs.Xor.{⊕-zero, zero-⊕, ⊕-comm, xor}
 use Rattle.parity.proofs.Candidate.{rowAmount, row-amount, row-amount-last}
 use Rattle.cells.proofs.Parts.{by-order}
 use Rattle.lines.specs.Lines.{real, line, span}
-use Rattle.lines.specs.Places.{blank}
+use Rattle.lines.specs.Places.{without}
 use Rattle.lines.proofs.Lines.{real-out, span-none, span-join, span-line}
 use Rattle.lines.proofs.Equations.{row-at}
 use Rattle.lines.proofs.Valid.{line-more}
 use Rattle.lines.proofs.Amounts.{row-amount-line, diagonal-lines}
-use Rattle.lines.proofs.Places.{blank-span}
+use Rattle.lines.proofs.Places.{without-span}
 use Rattle.breaks.specs.But.{endsBut, partBut, windowBut, lineBut}
 
 module _ (m k : ℕ) (a : Lane) (u d : ℕ) where
@@ -39,17 +39,17 @@ module _ (m k : ℕ) (a : Lane) (u d : ℕ) where
   unfolding endsBut
   ends-diagonal h l = sym (rw (le-ltb k u h, le-ltb u k l) (⊕-zero (real m a d (k + 1))))
 
-  pub part-row : (x y : ℕ) → k < u → span m (blank u u a) 0 d x y ≡ partBut m k a u d x y
+  pub part-row : (x y : ℕ) → k < u → span m (without u u a) 0 d x y ≡ partBut m k a u d x y
   unfolding partBut
   part-row x y h = sym (rw (lt-ltb k u h))
 
-  pub part-data : (x y : ℕ) → u < k → span m (blank u u a) 1 d x y ⊕ span m (blank u u a) 0 (back m d u) x y ≡ partBut m k a u d x y
+  pub part-data : (x y : ℕ) → u < k → span m (without u u a) 1 d x y ⊕ span m (without u u a) 0 (back m d u) x y ≡ partBut m k a u d x y
   unfolding partBut
   part-data x y h = sym (rw (le-ltb k u (omega arith), lt-ltb u k h))
 
-  pub part-diagonal : (x y : ℕ) → u ≤ k → k ≤ u → span m (blank u u a) 1 d x y ≡ partBut m k a u d x y
+  pub part-diagonal : (x y : ℕ) → u ≤ k → k ≤ u → span m (without u u a) 1 d x y ≡ partBut m k a u d x y
   unfolding partBut
-  part-diagonal x y h l = sym (rw (le-ltb k u h, le-ltb u k l) (⊕-zero (span m (blank u u a) 1 d x y)))
+  part-diagonal x y h l = sym (rw (le-ltb k u h, le-ltb u k l) (⊕-zero (span m (without u u a) 1 d x y)))
 
   -- one of the three
   by-column : (P : Type 0) → (k < u → P) → (u < k → P) → (u ≤ k → k ≤ u → P) → P
@@ -57,18 +57,18 @@ module _ (m k : ℕ) (a : Lane) (u d : ℕ) where
 
   part-none : (x : ℕ) → partBut m k a u d x x ≡ 0
   part-none x = by-column (partBut m k a u d x x ≡ 0)
-      (λ h. sym (part-row x x h) ∙ span-none m (blank u u a) 0 d x)
-      (λ h. sym (part-data x x h) ∙ ap₂ _⊕_ (span-none m (blank u u a) 1 d x) (span-none m (blank u u a) 0 (back m d u) x) ∙ zero-⊕ 0)
-      (λ h l. sym (part-diagonal x x h l) ∙ span-none m (blank u u a) 1 d x)
+      (λ h. sym (part-row x x h) ∙ span-none m (without u u a) 0 d x)
+      (λ h. sym (part-data x x h) ∙ ap₂ _⊕_ (span-none m (without u u a) 1 d x) (span-none m (without u u a) 0 (back m d u) x) ∙ zero-⊕ 0)
+      (λ h l. sym (part-diagonal x x h l) ∙ span-none m (without u u a) 1 d x)
 
   part-join : (x y z : ℕ) → partBut m k a u d x y ⊕ partBut m k a u d y z ≡ partBut m k a u d x z
   part-join x y z = by-column (partBut m k a u d x y ⊕ partBut m k a u d y z ≡ partBut m k a u d x z)
-      (λ h. ap₂ _⊕_ (sym (part-row x y h)) (sym (part-row y z h)) ∙ span-join m (blank u u a) 0 d x y z ∙ part-row x z h)
+      (λ h. ap₂ _⊕_ (sym (part-row x y h)) (sym (part-row y z h)) ∙ span-join m (without u u a) 0 d x y z ∙ part-row x z h)
       (λ h.
       ap₂ _⊕_ (sym (part-data x y h)) (sym (part-data y z h))
-      ∙ swap (span m (blank u u a) 1 d x y) (span m (blank u u a) 0 (back m d u) x y) (span m (blank u u a) 1 d y z) (span m (blank u u a) 0 (back m d u) y z)
-      ∙ ap₂ _⊕_ (span-join m (blank u u a) 1 d x y z) (span-join m (blank u u a) 0 (back m d u) x y z) ∙ part-data x z h)
-      (λ h l. ap₂ _⊕_ (sym (part-diagonal x y h l)) (sym (part-diagonal y z h l)) ∙ span-join m (blank u u a) 1 d x y z ∙ part-diagonal x z h l)
+      ∙ swap (span m (without u u a) 1 d x y) (span m (without u u a) 0 (back m d u) x y) (span m (without u u a) 1 d y z) (span m (without u u a) 0 (back m d u) y z)
+      ∙ ap₂ _⊕_ (span-join m (without u u a) 1 d x y z) (span-join m (without u u a) 0 (back m d u) x y z) ∙ part-data x z h)
+      (λ h l. ap₂ _⊕_ (sym (part-diagonal x y h l)) (sym (part-diagonal y z h l)) ∙ span-join m (without u u a) 1 d x y z ∙ part-diagonal x z h l)
     where
       swap : (p q r s : ℕ) → p ⊕ q ⊕ (r ⊕ s) ≡ p ⊕ r ⊕ (q ⊕ s)
       swap p q r s = simp xor
@@ -101,8 +101,8 @@ module _ (m k : ℕ) (a : Lane) (u d : ℕ) where
 
 module _ (m k : ℕ) (big : 1 < m) (few : k ≤ m) (a : Lane) where
   -- a line over the data columns, where none of them is left out
-  whole : (u e d : ℕ) → k ≤ u → span m (blank u u a) e d 0 k ≡ line m a e d k
-  whole u e d h = blank-span m u u a e d 0 k (omega arith) (λ t l b. (λ q. absurd (omega arith), λ q. absurd (omega arith))) ∙ span-line m a e d k
+  whole : (u e d : ℕ) → k ≤ u → span m (without u u a) e d 0 k ≡ line m a e d k
+  whole u e d h = without-span m u u a e d 0 k (omega arith) (λ t l b. (λ q. absurd (omega arith), λ q. absurd (omega arith))) ∙ span-line m a e d k
 
   -- the amount of a row, without H's cell and with it
   pub row-end : (d : ℕ) → d < m → line m a 0 d k ⊕ real m a d k ≡ rowAmount m k a d

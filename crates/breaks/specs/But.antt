@@ -11,13 +11,13 @@ use lib.Dec.{ltb}
 use Rattle.parity.specs.Xor.{_⊕_}
 use Rattle.parity.specs.Equations.{Lane, back}
 use Rattle.lines.specs.Lines.{real, span}
-use Rattle.lines.specs.Places.{blank}
+use Rattle.lines.specs.Places.{without}
 
 unfoldable pub endsBut : ℕ → ℕ → Lane → ℕ → ℕ → ℕ
 endsBut m k a u d = cond (ltb k u) (real m a d k) (real m a d (k + 1) ⊕ cond (ltb u k) (real m a (back m d u) k) 0)
 
 unfoldable pub partBut : ℕ → ℕ → Lane → ℕ → ℕ → ℕ → ℕ → ℕ
-partBut m k a u d x y = cond (ltb k u) (span m (blank u u a) 0 d x y) (span m (blank u u a) 1 d x y ⊕ cond (ltb u k) (span m (blank u u a) 0 (back m d u) x y) 0)
+partBut m k a u d x y = cond (ltb k u) (span m (without u u a) 0 d x y) (span m (without u u a) 1 d x y ⊕ cond (ltb u k) (span m (without u u a) 0 (back m d u) x y) 0)
 
 unfoldable pub windowBut : ℕ → ℕ → Lane → ℕ → ℕ → ℕ → ℕ → ℕ
 windowBut m k a u d x y = cond (ltb y k) 0 (endsBut m k a u d) ⊕ partBut m k a u d x y

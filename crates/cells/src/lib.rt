@@ -34,6 +34,18 @@ pub fn copy_into(dst: &mut [u8], src: &[u8])
     }
 }
 
+// acc becomes the bytes of w from `from` on. Past the end of w there are none, and acc becomes zero.
+pub fn take(acc: &mut [u8], w: &[u8], from: usize)
+    requires { ⌜ (from < length (now w) → from + length (now acc) ≤ length (now w)) ⌝ }
+    ensures { λ _. ⌜ Put (now (acc .entry)) (now (acc .exit)) 0 (length (now (acc .entry))) (λ l. getD (now (w .entry)) (from + l) 0) ⌝ }
+{
+    if from < w.len() {
+        copy_into(acc, &w[from..from + acc.len()]);
+    } else {
+        zero(acc);
+    }
+}
+
 // The bytes of x or-ed together: 0 exactly when each is.
 pub fn any(x: &[u8]) -> u8
     ensures { λ r. ⌜ Tells r (length (now (x .entry))) (λ l. getD (now (x .entry)) l 0) ⌝ }

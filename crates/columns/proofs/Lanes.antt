@@ -19,7 +19,7 @@ use Rattle.parity.proofs.Xor.{⊕-zero, zero-⊕}
 use Rattle.parity.proofs.Sum.{sum-cong, sum-add}
 use Rattle.parity.proofs.Diagonals.{S-total}
 use Rattle.lines.specs.Lines.{real, span, ended}
-use Rattle.lines.specs.Places.{blank}
+use Rattle.lines.specs.Places.{without}
 use Rattle.lines.proofs.Lines.{real-in, span-agree}
 use Rattle.lines.proofs.Amounts.{cells-span}
 use Rattle.lines.proofs.Ended.{crossing, row-crossing, row-clear, diagonal-crossing, diagonal-end, diagonal-clear, rows-left, diagonals-left}
@@ -43,10 +43,10 @@ back-here m r u h low =
 module _ (m k : ℕ) (big : 1 < m) (few : k ≤ m) (s a : Lane) (holds : Holds m k a) (u v : ℕ) (apart : u ≢ v)
     (same : (r t : ℕ) → r < m - 1 → t < k + 2 → t ≢ u → t ≢ v → s r t ≡ a r t) where
   abbrev R : ℕ → ℕ
-  R i = ended m (blank u v s) 0 i k k
+  R i = ended m (without u v s) 0 i k k
 
   abbrev E : ℕ → ℕ
-  E i = ended m (blank u v s) 1 i (k + 1) k
+  E i = ended m (without u v s) 1 i (k + 1) k
 
   rows : (i x y : ℕ) → i < m → crossing m a 0 i k k u ≡ x → crossing m a 0 i k k v ≡ y → R i ≡ x ⊕ y
   rows i x y h p q = rows-left m k big few a holds s u v apart same i h ∙ ap₂ _⊕_ p q

@@ -21,7 +21,7 @@ use Rattle.cells.specs.Runs.{Added, Put}
 use Rattle.cells.proofs.Parts.{part}
 use Rattle.cells.proofs.Puts.{put-start, put-same}
 use Rattle.lines.specs.Lines.{real, span, ended}
-use Rattle.lines.specs.Places.{blank}
+use Rattle.lines.specs.Places.{without}
 use Rattle.lines.proofs.Lines.{up-straight, real-in, real-out, real-same}
 use Rattle.lines.proofs.Ended.{ended-join}
 use Rattle.lines.proofs.Whole.{no-seed, whole-line}
@@ -38,7 +38,7 @@ use Rattle.columns.proofs.Lanes.{row-of-one, row-of-both, diagonal-of-b
 -- the numbers that a half or a cell is set to, by the first n columns, from a seed
 module _ (m b u v : ℕ) (s : List ℕ) where
   abbrev pub Ended : List ℕ → ℕ → ℕ → ℕ → ℕ → ℕ → ℕ → ℕ
-  Ended seed e d h n r l = getD seed l 0 ⊕ ended m (blank u v (lane m b s l)) e ((r + d) % m) h n
+  Ended seed e d h n r l = getD seed l 0 ⊕ ended m (without u v (lane m b s l)) e ((r + d) % m) h n
 
   abbrev pub parities : ℕ → ℕ → ℕ
   parities k l = sum (m - 1) (λ i. span m (lane m b s l) 0 i k (k + 2))
@@ -82,12 +82,12 @@ module _ (m k b : ℕ) {c : ℕ} (s w : List ℕ) (ready : Ready m k b c (length
       let bench = halves-added m b (second-set m b (ready .sized .column) (first-set m b (bench-now m b w whole) p) q) t in record {
         size = bench .size;
         first = λ i l hi hl.
-            let n = blank u v (lane m b s l) in
+            let n = without u v (lane m b s l) in
             bench .first i l hi hl
             ∙ ap (λ (y : ℕ). y ⊕ span m n 0 i e k) (no-seed s l (ap (λ (j : ℕ). ended m n 0 j k e) (whole-line (omega arith))))
             ∙ ended-join m n 0 i k e k;
         second = λ i l hi hl.
-            let n = blank u v (lane m b s l) in
+            let n = without u v (lane m b s l) in
             bench .second i l hi hl
             ∙ ⊕-assoc (getD x l 0) (ended m n 1 ((i + d) % m) (k + 1) e) (span m n 1 ((i + d) % m) e k)
             ∙ ap (λ (y : ℕ). getD x l 0 ⊕ y) (ended-join m n 1 ((i + d) % m) (k + 1) e k);

@@ -11,15 +11,15 @@ use lib.ListN.{length, getD}
 use Rattle.parity.specs.Xor.{_⊕_}
 use Rattle.parity.specs.Stripe.{lane, Valid}
 use Rattle.lines.specs.Lines.{real, ended}
-use Rattle.lines.specs.Places.{blank}
+use Rattle.lines.specs.Places.{without}
 use Rattle.walk.specs.Walk.{Mixed, Parted}
 use Rattle.columns.specs.Columns.{SameButTwo}
 
 abbrev pub rowLeft : ℕ → ℕ → ℕ → ℕ → ℕ → List ℕ → ℕ → ℕ → ℕ
-rowLeft m k b u v s i l = ended m (blank u v (lane m b s l)) 0 i k k
+rowLeft m k b u v s i l = ended m (without u v (lane m b s l)) 0 i k k
 
 abbrev pub diagonalLeft : ℕ → ℕ → ℕ → ℕ → ℕ → List ℕ → ℕ → ℕ → ℕ
-diagonalLeft m k b u v s i l = ended m (blank u v (lane m b s l)) 1 i (k + 1) k
+diagonalLeft m k b u v s i l = ended m (without u v (lane m b s l)) 1 i (k + 1) k
 
 abbrev pub BothLeft : ℕ → ℕ → ℕ → ℕ → ℕ → ℕ → List ℕ → List ℕ → List ℕ → Type 0
 BothLeft m k b u v d s x w = Parted m b w (rowLeft m k b u v s) (λ r l. getD x l 0 ⊕ diagonalLeft m k b u v s ((r + d) % m) l)

@@ -20,9 +20,9 @@ use Rattle.parity.specs.Equations.{back}
 use Rattle.parity.specs.Stripe.{lane}
 use Rattle.cells.proofs.Parts.{by-order}
 use Rattle.lines.specs.Lines.{real, span}
-use Rattle.lines.specs.Places.{blank}
+use Rattle.lines.specs.Places.{without}
 use Rattle.lines.proofs.Lines.{span-none, span-more, span-join}
-use Rattle.lines.proofs.Places.{blank-span}
+use Rattle.lines.proofs.Places.{without-span}
 use Rattle.fill.specs.Fill.{BothAdded}
 use Rattle.lines.proofs.Rows.{Grown, lined-same, grown-none, grown-same, grown-both}
 use Rattle.fill.proofs.Rows.{both-none, both-both, both-grown}
@@ -41,13 +41,13 @@ slant-lt e t m few h some = by-order (e * t < m) e 1
 
 module _ (m b u v : ℕ) (s : List ℕ) where
   abbrev pub lineBut : ℕ → ℕ → ℕ → ℕ → ℕ → ℕ → ℕ
-  lineBut e d x y r l = span m (blank u v (lane m b s l)) e ((r + d) % m) x y
+  lineBut e d x y r l = span m (without u v (lane m b s l)) e ((r + d) % m) x y
 
   abbrev pub rowAt : ℕ → ℕ → ℕ → ℕ → ℕ
-  rowAt x y r l = span m (blank u v (lane m b s l)) 0 r x y
+  rowAt x y r l = span m (without u v (lane m b s l)) 0 r x y
 
   abbrev cellBut : ℕ → ℕ → ℕ → ℕ → ℕ → ℕ
-  cellBut e d t r l = real m (blank u v (lane m b s l)) (back m ((r + d) % m) (e * t)) t
+  cellBut e d t r l = real m (without u v (lane m b s l)) (back m ((r + d) % m) (e * t)) t
 
   abbrev pub Swept : ℕ → ℕ → ℕ → ℕ → List ℕ → List ℕ → ℕ → ℕ → Type 0
   Swept n at e d w q x y = Grown n b at w q (lineBut e d x y)
@@ -56,10 +56,10 @@ module _ (m b u v : ℕ) (s : List ℕ) where
   BothSwept d w q x y = BothAdded m b w q (rowAt x y) (lineBut 1 d x y)
 
   line-none : (e d x r l : ℕ) → lineBut e d x x r l ≡ 0
-  line-none e d x r l = span-none m (blank u v (lane m b s l)) e ((r + d) % m) x
+  line-none e d x r l = span-none m (without u v (lane m b s l)) e ((r + d) % m) x
 
   line-join : (e d x y z r l : ℕ) → lineBut e d x y r l ⊕ lineBut e d y z r l ≡ lineBut e d x z r l
-  line-join e d x y z r l = span-join m (blank u v (lane m b s l)) e ((r + d) % m) x y z
+  line-join e d x y z r l = span-join m (without u v (lane m b s l)) e ((r + d) % m) x y z
 
   pub swept-none : (n at e d : ℕ) (w : List ℕ) (x : ℕ) → Swept n at e d w w x x
   swept-none n at e d w x = grown-none n b at w (lineBut e d x x) (line-none e d x)
@@ -69,31 +69,31 @@ module _ (m b u v : ℕ) (s : List ℕ) where
 
   pub swept-more : (n at e d : ℕ) (w o q : List ℕ) (x t : ℕ) → Swept n at e d w o x t → Grown n b at o q (cellBut e d t) → Swept n at e d w q x (t + 1)
   swept-more n at e d w o q x t f g =
-      grown-both n b at w o q (lineBut e d x t) (cellBut e d t) (lineBut e d x (t + 1)) f g (λ r l. span-more m (blank u v (lane m b s l)) e ((r + d) % m) x t)
+      grown-both n b at w o q (lineBut e d x t) (cellBut e d t) (lineBut e d x (t + 1)) f g (λ r l. span-more m (without u v (lane m b s l)) e ((r + d) % m) x t)
 
   pub swept-one : (n at e d : ℕ) (w q : List ℕ) (t : ℕ) → Grown n b at w q (cellBut e d t) → Swept n at e d w q t (t + 1)
   swept-one n at e d w q t f = swept-more n at e d w w q t t (swept-none n at e d w t) f
 
   pub both-swept-none : (d : ℕ) (w : List ℕ) (x : ℕ) → BothSwept d w w x x
-  both-swept-none d w x = both-none m b w (rowAt x x) (lineBut 1 d x x) (λ r l. span-none m (blank u v (lane m b s l)) 0 r x) (line-none 1 d x)
+  both-swept-none d w x = both-none m b w (rowAt x x) (lineBut 1 d x x) (λ r l. span-none m (without u v (lane m b s l)) 0 r x) (line-none 1 d x)
 
   pub both-swept-join : (d : ℕ) (w o q : List ℕ) (x y z : ℕ) → BothSwept d w o x y → BothSwept d o q y z → BothSwept d w q x z
   both-swept-join d w o q x y z f g =
       both-both m b w o q (rowAt x y) (rowAt y z) (rowAt x z) (lineBut 1 d x y) (lineBut 1 d y z) (lineBut 1 d x z) f g
-      (λ r l. span-join m (blank u v (lane m b s l)) 0 r x y z) (line-join 1 d x y z)
+      (λ r l. span-join m (without u v (lane m b s l)) 0 r x y z) (line-join 1 d x y z)
 
   pub both-swept : (c d : ℕ) (w o q : List ℕ) (x y : ℕ) → c ≡ columnLength m b → Swept (m - 1) 0 0 0 w o x y → Swept (m - 1) c 1 d o q x y → BothSwept d w q x y
   both-swept c d w o q x y column f g = both-grown m b c w o q (rowAt x y) (lineBut 1 d x y) column (lined-same f (λ r l h k.
       let e : r + 0 ≡ r = omega arith in
-      ap (λ (i : ℕ). getD w (0 + (r * b + l)) 0 ⊕ span m (blank u v (lane m b s l)) 0 i x y) (ap (λ (i : ℕ). i % m) e ∙ mod-eq-of-lt (omega arith)))) g
+      ap (λ (i : ℕ). getD w (0 + (r * b + l)) 0 ⊕ span m (without u v (lane m b s l)) 0 i x y) (ap (λ (i : ℕ). i % m) e ∙ mod-eq-of-lt (omega arith)))) g
 
 -- no column is left out
 module _ (m b : ℕ) (s : List ℕ) where
   abbrev pub lineAt : ℕ → ℕ → ℕ → ℕ → ℕ → ℕ → ℕ
   lineAt e d x y r l = span m (lane m b s l) e ((r + d) % m) x y
 
-  pub whole-span : (l e i x y : ℕ) → x ≤ y → y ≤ 129 → span m (blank 129 129 (lane m b s l)) e i x y ≡ span m (lane m b s l) e i x y
-  whole-span l e i x y order most = blank-span m 129 129 (lane m b s l) e i x y order (λ t h k. (λ q. absurd (omega arith), λ q. absurd (omega arith)))
+  pub whole-span : (l e i x y : ℕ) → x ≤ y → y ≤ 129 → span m (without 129 129 (lane m b s l)) e i x y ≡ span m (lane m b s l) e i x y
+  whole-span l e i x y order most = without-span m 129 129 (lane m b s l) e i x y order (λ t h k. (λ q. absurd (omega arith), λ q. absurd (omega arith)))
 
   pub swept-all : (n at e d : ℕ) (w q : List ℕ) (x y : ℕ) → x ≤ y → y ≤ 129 → Swept m b 129 129 s n at e d w q x y
       → Grown n b at w q (lineAt e d x y)

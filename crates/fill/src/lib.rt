@@ -8,7 +8,7 @@ ghost use Rattle.parity.specs.Xor.{_⊕_};
 ghost use Rattle.parity.specs.Stripe.{lane};
 ghost use Rattle.cells.specs.Runs.{Put};
 ghost use Rattle.lines.specs.Lines.{real, span, ended, Sized, Crosses};
-ghost use Rattle.lines.specs.Places.{blank, total, Within};
+ghost use Rattle.lines.specs.Places.{without, total, Within};
 ghost use Rattle.fill.specs.Fill.{seedOf, Lined, BothAdded};
 use lines::Grid;
 
@@ -165,7 +165,7 @@ fn fill_group(
     to: usize,
 )
     requires { ⌜ (0 < length (now seed) → g .b ≤ length (now seed)) × (to + g .b ≤ length (now w)) × (t1 ≤ t0 + 10) × Sized (g .m) (g .b) (g .column) × Crosses (g .m) (g .column) (length (now s)) slant i t0 t1 ⌝ }
-    ensures { λ _. ⌜ Put (now (w .entry)) (now (w .exit)) to (g .b) (λ l. seedOf fresh (now (seed .entry)) (now (w .entry)) to l ⊕ span (g .m) (blank u v (lane (g .m) (g .b) (now (s .entry)) l)) slant i t0 t1) ⌝ }
+    ensures { λ _. ⌜ Put (now (w .entry)) (now (w .exit)) to (g .b) (λ l. seedOf fresh (now (seed .entry)) (now (w .entry)) to l ⊕ span (g .m) (without u v (lane (g .m) (g .b) (now (s .entry)) l)) slant i t0 t1) ⌝ }
 {
     let b = g.b;
     let mut at = [0usize; 10];
@@ -189,7 +189,7 @@ pub fn fill_ended(
     to: usize,
 )
     requires { ⌜ (0 < length (now seed) → g .b ≤ length (now seed)) × (to + g .b ≤ length (now w)) × (n ≤ 10) × (h < 129) × (h * g .column + g .column ≤ length (now s)) × Sized (g .m) (g .b) (g .column) × Crosses (g .m) (g .column) (length (now s)) slant i 0 n ⌝ }
-    ensures { λ _. ⌜ Put (now (w .entry)) (now (w .exit)) to (g .b) (λ l. getD (now (seed .entry)) l 0 ⊕ ended (g .m) (blank u v (lane (g .m) (g .b) (now (s .entry)) l)) slant i h n) ⌝ }
+    ensures { λ _. ⌜ Put (now (w .entry)) (now (w .exit)) to (g .b) (λ l. getD (now (seed .entry)) l 0 ⊕ ended (g .m) (without u v (lane (g .m) (g .b) (now (s .entry)) l)) slant i h n) ⌝ }
 {
     let b = g.b;
     let mut at = [0usize; 11];
@@ -212,7 +212,7 @@ fn add_line(
     at: usize,
 )
     requires { ⌜ (at + g .b ≤ length (now w)) × (t1 ≤ t0 + 10) × Sized (g .m) (g .b) (g .column) × Crosses (g .m) (g .column) (length (now s)) slant i t0 t1 ⌝ }
-    ensures { λ _. ⌜ Put (now (w .entry)) (now (w .exit)) at (g .b) (λ l. getD (now (w .entry)) (at + l) 0 ⊕ span (g .m) (blank u v (lane (g .m) (g .b) (now (s .entry)) l)) slant i t0 t1) ⌝ }
+    ensures { λ _. ⌜ Put (now (w .entry)) (now (w .exit)) at (g .b) (λ l. getD (now (w .entry)) (at + l) 0 ⊕ span (g .m) (without u v (lane (g .m) (g .b) (now (s .entry)) l)) slant i t0 t1) ⌝ }
 {
     fill_group(w, &s[0..0], false, s, g, slant, i, t0, t1, u, v, at);
 }
@@ -231,7 +231,7 @@ fn add_groups(
     at: usize,
 )
     requires { ⌜ (at + g .b ≤ length (now w)) × Sized (g .m) (g .b) (g .column) × Crosses (g .m) (g .column) (length (now s)) slant i t0 t1 ⌝ }
-    ensures { λ _. ⌜ Put (now (w .entry)) (now (w .exit)) at (g .b) (λ l. getD (now (w .entry)) (at + l) 0 ⊕ span (g .m) (blank u v (lane (g .m) (g .b) (now (s .entry)) l)) slant i t0 t1) ⌝ }
+    ensures { λ _. ⌜ Put (now (w .entry)) (now (w .exit)) at (g .b) (λ l. getD (now (w .entry)) (at + l) 0 ⊕ span (g .m) (without u v (lane (g .m) (g .b) (now (s .entry)) l)) slant i t0 t1) ⌝ }
 {
     let mut t = t0;
     while t < t1 {
@@ -290,7 +290,7 @@ fn add_by_cells(
     v: usize,
 )
     requires { ⌜ (at + rows * g .b ≤ length (now w)) × (rows < g .m) × (shift < g .m) × (t1 ≤ t0 + 10) × Sized (g .m) (g .b) (g .column) × Crosses (g .m) (g .column) (length (now s)) slant 0 t0 t1 ⌝ }
-    ensures { λ _. ⌜ Lined rows (g .b) at (now (w .entry)) (now (w .exit)) (λ r l. getD (now (w .entry)) (at + (r * g .b + l)) 0 ⊕ span (g .m) (blank u v (lane (g .m) (g .b) (now (s .entry)) l)) slant ((r + shift) % g .m) t0 t1) ⌝ }
+    ensures { λ _. ⌜ Lined rows (g .b) at (now (w .entry)) (now (w .exit)) (λ r l. getD (now (w .entry)) (at + (r * g .b + l)) 0 ⊕ span (g .m) (without u v (lane (g .m) (g .b) (now (s .entry)) l)) slant ((r + shift) % g .m) t0 t1) ⌝ }
 {
     let m = g.m;
     let b = g.b;
@@ -329,7 +329,7 @@ fn add_other(
     v: usize,
 )
     requires { ⌜ (at + g .column ≤ length (now w)) × (t * g .column + g .column ≤ length (now s)) × (slant ≤ 1) × (slant * t < g .m) × (shift < g .m) × Sized (g .m) (g .b) (g .column) ⌝ }
-    ensures { λ _. ⌜ Lined (g .m - 1) (g .b) at (now (w .entry)) (now (w .exit)) (λ r l. getD (now (w .entry)) (at + (r * g .b + l)) 0 ⊕ real (g .m) (blank u v (lane (g .m) (g .b) (now (s .entry)) l)) (back (g .m) ((r + shift) % g .m) (slant * t)) t) ⌝ }
+    ensures { λ _. ⌜ Lined (g .m - 1) (g .b) at (now (w .entry)) (now (w .exit)) (λ r l. getD (now (w .entry)) (at + (r * g .b + l)) 0 ⊕ real (g .m) (without u v (lane (g .m) (g .b) (now (s .entry)) l)) (back (g .m) ((r + shift) % g .m) (slant * t)) t) ⌝ }
 {
     if t == u {
         return;
@@ -356,7 +356,7 @@ fn add_by_columns(
     v: usize,
 )
     requires { ⌜ (at + g .column ≤ length (now w)) × (shift < g .m) × Sized (g .m) (g .b) (g .column) × Crosses (g .m) (g .column) (length (now s)) slant 0 t0 t1 ⌝ }
-    ensures { λ _. ⌜ Lined (g .m - 1) (g .b) at (now (w .entry)) (now (w .exit)) (λ r l. getD (now (w .entry)) (at + (r * g .b + l)) 0 ⊕ span (g .m) (blank u v (lane (g .m) (g .b) (now (s .entry)) l)) slant ((r + shift) % g .m) t0 t1) ⌝ }
+    ensures { λ _. ⌜ Lined (g .m - 1) (g .b) at (now (w .entry)) (now (w .exit)) (λ r l. getD (now (w .entry)) (at + (r * g .b + l)) 0 ⊕ span (g .m) (without u v (lane (g .m) (g .b) (now (s .entry)) l)) slant ((r + shift) % g .m) t0 t1) ⌝ }
 {
     for t in t0..t1 {
         add_other(w, at, s, g, slant, shift, t, u, v);
@@ -380,7 +380,7 @@ fn by_columns(g: Grid, rows: usize) -> bool
 // whole columns stand row by row as their sum does.
 fn add_whole(w: &mut [u8], at: usize, s: &[u8], g: Grid, t0: usize, t1: usize, u: usize, v: usize)
     requires { ⌜ (at + g .column ≤ length (now w)) × (g .column ≤ 4096) × Sized (g .m) (g .b) (g .column) × Crosses (g .m) (g .column) (length (now s)) 0 0 t0 t1 ⌝ }
-    ensures { λ _. ⌜ Lined (g .m - 1) (g .b) at (now (w .entry)) (now (w .exit)) (λ r l. getD (now (w .entry)) (at + (r * g .b + l)) 0 ⊕ span (g .m) (blank u v (lane (g .m) (g .b) (now (s .entry)) l)) 0 r t0 t1) ⌝ }
+    ensures { λ _. ⌜ Lined (g .m - 1) (g .b) at (now (w .entry)) (now (w .exit)) (λ r l. getD (now (w .entry)) (at + (r * g .b + l)) 0 ⊕ span (g .m) (without u v (lane (g .m) (g .b) (now (s .entry)) l)) 0 r t0 t1) ⌝ }
 {
     let c = g.column;
     let row = Grid {
@@ -422,7 +422,7 @@ fn add_columns(
     v: usize,
 )
     requires { ⌜ (at + g .column ≤ length (now w)) × (shift < g .m) × Sized (g .m) (g .b) (g .column) × Crosses (g .m) (g .column) (length (now s)) slant 0 t0 t1 ⌝ }
-    ensures { λ _. ⌜ Lined (g .m - 1) (g .b) at (now (w .entry)) (now (w .exit)) (λ r l. getD (now (w .entry)) (at + (r * g .b + l)) 0 ⊕ span (g .m) (blank u v (lane (g .m) (g .b) (now (s .entry)) l)) slant ((r + shift) % g .m) t0 t1) ⌝ }
+    ensures { λ _. ⌜ Lined (g .m - 1) (g .b) at (now (w .entry)) (now (w .exit)) (λ r l. getD (now (w .entry)) (at + (r * g .b + l)) 0 ⊕ span (g .m) (without u v (lane (g .m) (g .b) (now (s .entry)) l)) slant ((r + shift) % g .m) t0 t1) ⌝ }
 {
     if is_whole(g, slant, shift) {
         add_whole(w, at, s, g, t0, t1, u, v);
@@ -447,7 +447,7 @@ fn add_by_groups(
     v: usize,
 )
     requires { ⌜ (at + rows * g .b ≤ length (now w)) × (rows < g .m) × (shift < g .m) × Sized (g .m) (g .b) (g .column) × Crosses (g .m) (g .column) (length (now s)) slant 0 t0 t1 ⌝ }
-    ensures { λ _. ⌜ Lined rows (g .b) at (now (w .entry)) (now (w .exit)) (λ r l. getD (now (w .entry)) (at + (r * g .b + l)) 0 ⊕ span (g .m) (blank u v (lane (g .m) (g .b) (now (s .entry)) l)) slant ((r + shift) % g .m) t0 t1) ⌝ }
+    ensures { λ _. ⌜ Lined rows (g .b) at (now (w .entry)) (now (w .exit)) (λ r l. getD (now (w .entry)) (at + (r * g .b + l)) 0 ⊕ span (g .m) (without u v (lane (g .m) (g .b) (now (s .entry)) l)) slant ((r + shift) % g .m) t0 t1) ⌝ }
 {
     let mut t = t0;
     while t < t1 {
@@ -472,7 +472,7 @@ pub fn fill_but(
     v: usize,
 )
     requires { ⌜ (at + rows * g .b ≤ length (now w)) × (rows < g .m) × (shift < g .m) × Sized (g .m) (g .b) (g .column) × Crosses (g .m) (g .column) (length (now s)) slant 0 t0 t1 ⌝ }
-    ensures { λ _. ⌜ Lined rows (g .b) at (now (w .entry)) (now (w .exit)) (λ r l. getD (now (w .entry)) (at + (r * g .b + l)) 0 ⊕ span (g .m) (blank u v (lane (g .m) (g .b) (now (s .entry)) l)) slant ((r + shift) % g .m) t0 t1) ⌝ }
+    ensures { λ _. ⌜ Lined rows (g .b) at (now (w .entry)) (now (w .exit)) (λ r l. getD (now (w .entry)) (at + (r * g .b + l)) 0 ⊕ span (g .m) (without u v (lane (g .m) (g .b) (now (s .entry)) l)) slant ((r + shift) % g .m) t0 t1) ⌝ }
 {
     if by_columns(g, rows) {
         add_columns(w, at, s, g, slant, shift, t0, t1, u, v);
@@ -503,7 +503,7 @@ pub fn fill_lines(
 // from t0 up to t1 but u and v.
 fn fill_two(w: &mut [u8], s: &[u8], g: Grid, shift: usize, t0: usize, t1: usize, u: usize, v: usize)
     requires { ⌜ (length (now w) ≡ 2 * g .column) × (shift < g .m) × Sized (g .m) (g .b) (g .column) × Crosses (g .m) (g .column) (length (now s)) 1 0 t0 t1 ⌝ }
-    ensures { λ _. ⌜ BothAdded (g .m) (g .b) (now (w .entry)) (now (w .exit)) (λ r l. span (g .m) (blank u v (lane (g .m) (g .b) (now (s .entry)) l)) 0 r t0 t1) (λ r l. span (g .m) (blank u v (lane (g .m) (g .b) (now (s .entry)) l)) 1 ((r + shift) % g .m) t0 t1) ⌝ }
+    ensures { λ _. ⌜ BothAdded (g .m) (g .b) (now (w .entry)) (now (w .exit)) (λ r l. span (g .m) (without u v (lane (g .m) (g .b) (now (s .entry)) l)) 0 r t0 t1) (λ r l. span (g .m) (without u v (lane (g .m) (g .b) (now (s .entry)) l)) 1 ((r + shift) % g .m) t0 t1) ⌝ }
 {
     let rows = g.m - 1;
     let second = g.column;
@@ -523,7 +523,7 @@ fn both_by_groups(
     v: usize,
 )
     requires { ⌜ (length (now w) ≡ 2 * g .column) × (shift < g .m) × Sized (g .m) (g .b) (g .column) × Crosses (g .m) (g .column) (length (now s)) 1 0 t0 t1 ⌝ }
-    ensures { λ _. ⌜ BothAdded (g .m) (g .b) (now (w .entry)) (now (w .exit)) (λ r l. span (g .m) (blank u v (lane (g .m) (g .b) (now (s .entry)) l)) 0 r t0 t1) (λ r l. span (g .m) (blank u v (lane (g .m) (g .b) (now (s .entry)) l)) 1 ((r + shift) % g .m) t0 t1) ⌝ }
+    ensures { λ _. ⌜ BothAdded (g .m) (g .b) (now (w .entry)) (now (w .exit)) (λ r l. span (g .m) (without u v (lane (g .m) (g .b) (now (s .entry)) l)) 0 r t0 t1) (λ r l. span (g .m) (without u v (lane (g .m) (g .b) (now (s .entry)) l)) 1 ((r + shift) % g .m) t0 t1) ⌝ }
 {
     let mut t = t0;
     while t < t1 {
@@ -536,7 +536,7 @@ fn both_by_groups(
 // The same over column t alone.
 fn add_both(w: &mut [u8], s: &[u8], g: Grid, shift: usize, t: usize, u: usize, v: usize)
     requires { ⌜ (length (now w) ≡ 2 * g .column) × (shift < g .m) × Sized (g .m) (g .b) (g .column) × Crosses (g .m) (g .column) (length (now s)) 1 0 t (t + 1) ⌝ }
-    ensures { λ _. ⌜ BothAdded (g .m) (g .b) (now (w .entry)) (now (w .exit)) (λ r l. span (g .m) (blank u v (lane (g .m) (g .b) (now (s .entry)) l)) 0 r t (t + 1)) (λ r l. span (g .m) (blank u v (lane (g .m) (g .b) (now (s .entry)) l)) 1 ((r + shift) % g .m) t (t + 1)) ⌝ }
+    ensures { λ _. ⌜ BothAdded (g .m) (g .b) (now (w .entry)) (now (w .exit)) (λ r l. span (g .m) (without u v (lane (g .m) (g .b) (now (s .entry)) l)) 0 r t (t + 1)) (λ r l. span (g .m) (without u v (lane (g .m) (g .b) (now (s .entry)) l)) 1 ((r + shift) % g .m) t (t + 1)) ⌝ }
 {
     let second = g.column;
     add_other(w, 0, s, g, 0, 0, t, u, v);
@@ -556,7 +556,7 @@ fn both_by_columns(
     v: usize,
 )
     requires { ⌜ (length (now w) ≡ 2 * g .column) × (shift < g .m) × Sized (g .m) (g .b) (g .column) × Crosses (g .m) (g .column) (length (now s)) 1 0 t0 t1 ⌝ }
-    ensures { λ _. ⌜ BothAdded (g .m) (g .b) (now (w .entry)) (now (w .exit)) (λ r l. span (g .m) (blank u v (lane (g .m) (g .b) (now (s .entry)) l)) 0 r t0 t1) (λ r l. span (g .m) (blank u v (lane (g .m) (g .b) (now (s .entry)) l)) 1 ((r + shift) % g .m) t0 t1) ⌝ }
+    ensures { λ _. ⌜ BothAdded (g .m) (g .b) (now (w .entry)) (now (w .exit)) (λ r l. span (g .m) (without u v (lane (g .m) (g .b) (now (s .entry)) l)) 0 r t0 t1) (λ r l. span (g .m) (without u v (lane (g .m) (g .b) (now (s .entry)) l)) 1 ((r + shift) % g .m) t0 t1) ⌝ }
 {
     for t in t0..t1 {
         add_both(w, s, g, shift, t, u, v);
@@ -575,7 +575,7 @@ pub fn fill_both(
     v: usize,
 )
     requires { ⌜ (length (now w) ≡ 2 * g .column) × (shift < g .m) × Sized (g .m) (g .b) (g .column) × Crosses (g .m) (g .column) (length (now s)) 1 0 t0 t1 ⌝ }
-    ensures { λ _. ⌜ BothAdded (g .m) (g .b) (now (w .entry)) (now (w .exit)) (λ r l. span (g .m) (blank u v (lane (g .m) (g .b) (now (s .entry)) l)) 0 r t0 t1) (λ r l. span (g .m) (blank u v (lane (g .m) (g .b) (now (s .entry)) l)) 1 ((r + shift) % g .m) t0 t1) ⌝ }
+    ensures { λ _. ⌜ BothAdded (g .m) (g .b) (now (w .entry)) (now (w .exit)) (λ r l. span (g .m) (without u v (lane (g .m) (g .b) (now (s .entry)) l)) 0 r t0 t1) (λ r l. span (g .m) (without u v (lane (g .m) (g .b) (now (s .entry)) l)) 1 ((r + shift) % g .m) t0 t1) ⌝ }
 {
     if g.column < 64 {
         both_by_columns(w, s, g, shift, t0, t1, u, v);

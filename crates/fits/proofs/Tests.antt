@@ -28,7 +28,7 @@ use Rattle.lines.proofs.Lines.{back-lt, real-out}
 use Rattle.lines.proofs.Equations.{row-at}
 use Rattle.lines.proofs.Valid.{line-without}
 use Rattle.lines.proofs.Amounts.{diagonal-lines}
-use Rattle.lines.proofs.Places.{blank-one}
+use Rattle.lines.proofs.Places.{without-one}
 use Rattle.breaks.specs.Breaking.{breaking}
 use Rattle.breaks.specs.But.{lineBut}
 use Rattle.breaks.proofs.Buts.{ends-data, part-data, row-end, rest, rest-H, rest-D}
@@ -39,8 +39,8 @@ module _ (m k : ℕ) (big : 1 < m) (few : k ≤ m) (a : Lane) where
   unfolding lineBut
   but-data u d h l =
       ap₂ _⊕_ (sym (ends-data m k a u d h)) (sym (part-data m k a u d 0 k h) ∙ ap₂ _⊕_
-      (blank-one m u a 1 d k h ∙ line-without m a 1 d u k ∙ ap (λ (x : ℕ). line m a 1 d k ⊕ real m a (back m d x) u) (one-mul u))
-      (blank-one m u a 0 r k h ∙ line-without m a 0 r u k ∙ ap (λ (x : ℕ). line m a 0 r k ⊕ real m a x u) (row-at m r u there)))
+      (without-one m u a 1 d k h ∙ line-without m a 1 d u k ∙ ap (λ (x : ℕ). line m a 1 d k ⊕ real m a (back m d x) u) (one-mul u))
+      (without-one m u a 0 r k h ∙ line-without m a 0 r u k ∙ ap (λ (x : ℕ). line m a 0 r k ⊕ real m a x u) (row-at m r u there)))
       ∙ tidy (real m a d (k + 1)) (real m a r k) (line m a 1 d k) (real m a r u) (line m a 0 r k)
       ∙ ap (λ (x : ℕ). line m a 1 d k ⊕ x ⊕ real m a d (k + 1)) (row-end m k big few a r there)
     where

@@ -21,9 +21,9 @@ use Rattle.parity.specs.Equations.{Lane, back, S, Holds}
 use Rattle.parity.proofs.Xor.{⊕-assoc, ⊕-zero, zero-⊕, ⊕-self, xor}
 use Rattle.cells.proofs.Parts.{by-order}
 use Rattle.lines.specs.Lines.{real, span, ended}
-use Rattle.lines.specs.Places.{blank}
+use Rattle.lines.specs.Places.{without}
 use Rattle.lines.proofs.Lines.{span-none, span-line, span-more, span-join, real-same, span-agree}
-use Rattle.lines.proofs.Places.{blank-other, first-blank, second-blank, blank-real, blank-first, blank-second}
+use Rattle.lines.proofs.Places.{without-other, first-without, second-without, without-real, without-first, without-second}
 use Rattle.lines.proofs.Equations.{row-at}
 use Rattle.lines.proofs.Valid.{row-is, diagonal-is}
 
@@ -71,16 +71,16 @@ module _ (m : ℕ) (a : Lane) (e i : ℕ) where
 
   module _ (u v : ℕ) (apart : u ≢ v) where
     -- one column more
-    step : (n : ℕ) → real m (blank u v a) (back m i (e * n)) n ⊕ (inside n u ⊕ inside n v) ≡ real m a (back m i (e * n)) n ⊕ (inside (n + 1) u ⊕ inside (n + 1) v)
+    step : (n : ℕ) → real m (without u v a) (back m i (e * n)) n ⊕ (inside n u ⊕ inside n v) ≡ real m a (back m i (e * n)) n ⊕ (inside (n + 1) u ⊕ inside (n + 1) v)
     step n =
         by-same Goal n u
         (λ q. first q (inside-more n v (λ z. absurd (apart (omega arith)))))
         (λ q. by-same Goal n v
         (λ z. second z (inside-more n u (λ y. absurd (q (omega arith)))))
-        (λ z. ap₂ _⊕_ (blank-real m u v a (back m i (e * n)) n q z) (ap₂ _⊕_ (sym (inside-more n u (λ y. absurd (q (omega arith))))) (sym (inside-more n v (λ y. absurd (z (omega arith))))))))
+        (λ z. ap₂ _⊕_ (without-real m u v a (back m i (e * n)) n q z) (ap₂ _⊕_ (sym (inside-more n u (λ y. absurd (q (omega arith))))) (sym (inside-more n v (λ y. absurd (z (omega arith))))))))
       where
         Goal : Type 0
-        Goal = real m (blank u v a) (back m i (e * n)) n ⊕ (inside n u ⊕ inside n v) ≡ real m a (back m i (e * n)) n ⊕ (inside (n + 1) u ⊕ inside (n + 1) v)
+        Goal = real m (without u v a) (back m i (e * n)) n ⊕ (inside n u ⊕ inside n v) ≡ real m a (back m i (e * n)) n ⊕ (inside (n + 1) u ⊕ inside (n + 1) v)
 
         here : (t : ℕ) → n ≡ t → inside (n + 1) t ≡ real m a (back m i (e * n)) n
         here t q = inside-in (n + 1) t (omega arith) ∙ ap (λ (x : ℕ). real m a (back m i (e * x)) x) (sym q)
@@ -93,28 +93,28 @@ module _ (m : ℕ) (a : Lane) (e i : ℕ) where
 
         first : n ≡ u → inside (n + 1) v ≡ inside n v → Goal
         first q k =
-            ap₂ _⊕_ (blank-first m u v a (back m i (e * n)) n q) (ap₂ _⊕_ (inside-out n u (omega arith)) (sym k))
+            ap₂ _⊕_ (without-first m u v a (back m i (e * n)) n q) (ap₂ _⊕_ (inside-out n u (omega arith)) (sym k))
             ∙ one (real m a (back m i (e * n)) n) (inside (n + 1) v)
             ∙ ap (λ (x : ℕ). real m a (back m i (e * n)) n ⊕ (x ⊕ inside (n + 1) v)) (sym (here u q))
 
         second : n ≡ v → inside (n + 1) u ≡ inside n u → Goal
         second q k =
-            ap₂ _⊕_ (blank-second m u v a (back m i (e * n)) n q) (ap₂ _⊕_ (sym k) (inside-out n v (omega arith)))
+            ap₂ _⊕_ (without-second m u v a (back m i (e * n)) n q) (ap₂ _⊕_ (sym k) (inside-out n v (omega arith)))
             ∙ other (real m a (back m i (e * n)) n) (inside (n + 1) u)
             ∙ ap (λ (x : ℕ). real m a (back m i (e * n)) n ⊕ (inside (n + 1) u ⊕ x)) (sym (here v q))
 
-    span-but : (n : ℕ) → span m (blank u v a) e i 0 n ≡ span m a e i 0 n ⊕ (inside n u ⊕ inside n v)
+    span-but : (n : ℕ) → span m (without u v a) e i 0 n ≡ span m a e i 0 n ⊕ (inside n u ⊕ inside n v)
     span-but zero =
-        span-none m (blank u v a) e i 0
+        span-none m (without u v a) e i 0
         ∙ sym (ap₂ _⊕_ (span-none m a e i 0) (ap₂ _⊕_ (inside-out 0 u (omega arith)) (inside-out 0 v (omega arith))) ∙ none)
       where
         none : 0 ⊕ (0 ⊕ 0) ≡ 0
         none = simp xor
     span-but (suc n) =
-        subst (λ (x : ℕ). span m (blank u v a) e i 0 x ≡ span m a e i 0 x ⊕ (inside x u ⊕ inside x v)) (add-one n)
-        (sym (span-more m (blank u v a) e i 0 n)
-        ∙ ap (λ (x : ℕ). x ⊕ real m (blank u v a) (back m i (e * n)) n) (span-but n)
-        ∙ turn (span m a e i 0 n) (inside n u ⊕ inside n v) (real m (blank u v a) (back m i (e * n)) n)
+        subst (λ (x : ℕ). span m (without u v a) e i 0 x ≡ span m a e i 0 x ⊕ (inside x u ⊕ inside x v)) (add-one n)
+        (sym (span-more m (without u v a) e i 0 n)
+        ∙ ap (λ (x : ℕ). x ⊕ real m (without u v a) (back m i (e * n)) n) (span-but n)
+        ∙ turn (span m a e i 0 n) (inside n u ⊕ inside n v) (real m (without u v a) (back m i (e * n)) n)
         ∙ ap (λ (x : ℕ). span m a e i 0 n ⊕ x) (step n)
         ∙ sym (⊕-assoc (span m a e i 0 n) (real m a (back m i (e * n)) n) (inside (n + 1) u ⊕ inside (n + 1) v))
         ∙ ap (λ (x : ℕ). x ⊕ (inside (n + 1) u ⊕ inside (n + 1) v)) (span-more m a e i 0 n))
@@ -122,16 +122,16 @@ module _ (m : ℕ) (a : Lane) (e i : ℕ) where
         turn : (x y z : ℕ) → x ⊕ y ⊕ z ≡ x ⊕ (z ⊕ y)
         turn x y z = simp xor
 
-    end-but : (h : ℕ) → real m (blank u v a) i h ≡ real m a i h ⊕ (atEnd h u ⊕ atEnd h v)
+    end-but : (h : ℕ) → real m (without u v a) i h ≡ real m a i h ⊕ (atEnd h u ⊕ atEnd h v)
     end-but h =
         by-same Goal h u
-        (λ q. blank-first m u v a i h q ∙ sym (ap (λ (x : ℕ). real m a i h ⊕ x) (ap₂ _⊕_ (end-in h u (sym q)) (end-out h v (λ z. absurd (apart (omega arith))))) ∙ one (real m a i h)))
+        (λ q. without-first m u v a i h q ∙ sym (ap (λ (x : ℕ). real m a i h ⊕ x) (ap₂ _⊕_ (end-in h u (sym q)) (end-out h v (λ z. absurd (apart (omega arith))))) ∙ one (real m a i h)))
         (λ q. by-same Goal h v
-        (λ z. blank-second m u v a i h z ∙ sym (ap (λ (x : ℕ). real m a i h ⊕ x) (ap₂ _⊕_ (end-out h u (λ y. absurd (q (sym y)))) (end-in h v (sym z))) ∙ other (real m a i h)))
-        (λ z. blank-real m u v a i h q z ∙ sym (ap (λ (x : ℕ). real m a i h ⊕ x) (ap₂ _⊕_ (end-out h u (λ y. absurd (q (sym y)))) (end-out h v (λ y. absurd (z (sym y))))) ∙ none (real m a i h))))
+        (λ z. without-second m u v a i h z ∙ sym (ap (λ (x : ℕ). real m a i h ⊕ x) (ap₂ _⊕_ (end-out h u (λ y. absurd (q (sym y)))) (end-in h v (sym z))) ∙ other (real m a i h)))
+        (λ z. without-real m u v a i h q z ∙ sym (ap (λ (x : ℕ). real m a i h ⊕ x) (ap₂ _⊕_ (end-out h u (λ y. absurd (q (sym y)))) (end-out h v (λ y. absurd (z (sym y))))) ∙ none (real m a i h))))
       where
         Goal : Type 0
-        Goal = real m (blank u v a) i h ≡ real m a i h ⊕ (atEnd h u ⊕ atEnd h v)
+        Goal = real m (without u v a) i h ≡ real m a i h ⊕ (atEnd h u ⊕ atEnd h v)
 
         one : (x : ℕ) → x ⊕ (x ⊕ 0) ≡ 0
         one x = simp xor
@@ -142,7 +142,7 @@ module _ (m : ℕ) (a : Lane) (e i : ℕ) where
         none : (x : ℕ) → x ⊕ (0 ⊕ 0) ≡ x
         none x = simp xor
 
-    pub ended-but : (h n : ℕ) → ended m (blank u v a) e i h n ≡ ended m a e i h n ⊕ (crossing h n u ⊕ crossing h n v)
+    pub ended-but : (h n : ℕ) → ended m (without u v a) e i h n ≡ ended m a e i h n ⊕ (crossing h n u ⊕ crossing h n v)
     unfolding ended
     ended-but h n = ap₂ _⊕_ (end-but h) (span-but n) ∙ sums (real m a i h) (atEnd h u) (atEnd h v) (span m a e i 0 n) (inside n u) (inside n v)
       where
@@ -187,21 +187,21 @@ module _ (m k : ℕ) (big : 1 < m) (few : k ≤ m) (a : Lane) (holds : Holds m k
       sums x y = simp xor
 
   module _ (s : Lane) (u v : ℕ) (apart : u ≢ v) (same : (r t : ℕ) → r < m - 1 → t < k + 2 → t ≢ u → t ≢ v → s r t ≡ a r t) where
-    blank-same : (r t : ℕ) → r < m - 1 → t < k + 2 → blank u v s r t ≡ blank u v a r t
-    blank-same r t hr ht = by-same (blank u v s r t ≡ blank u v a r t) t u
-        (λ q. first-blank m u v s r t q ∙ sym (first-blank m u v a r t q))
-        (λ q. by-same (blank u v s r t ≡ blank u v a r t) t v
-        (λ z. second-blank m u v s r t z ∙ sym (second-blank m u v a r t z))
-        (λ z. blank-other m u v s r t q z ∙ same r t hr ht q z ∙ sym (blank-other m u v a r t q z)))
+    without-same : (r t : ℕ) → r < m - 1 → t < k + 2 → without u v s r t ≡ without u v a r t
+    without-same r t hr ht = by-same (without u v s r t ≡ without u v a r t) t u
+        (λ q. first-without m u v s r t q ∙ sym (first-without m u v a r t q))
+        (λ q. by-same (without u v s r t ≡ without u v a r t) t v
+        (λ z. second-without m u v s r t z ∙ sym (second-without m u v a r t z))
+        (λ z. without-other m u v s r t q z ∙ same r t hr ht q z ∙ sym (without-other m u v a r t q z)))
 
-    ended-same : (e i h n : ℕ) → h < k + 2 → n ≤ k + 2 → ended m (blank u v s) e i h n ≡ ended m (blank u v a) e i h n
+    ended-same : (e i h n : ℕ) → h < k + 2 → n ≤ k + 2 → ended m (without u v s) e i h n ≡ ended m (without u v a) e i h n
     unfolding ended
     ended-same e i h n low most =
         ap₂ _⊕_
-        (real-same m (blank u v s) (blank u v a) i (λ hr. blank-same i h hr low))
-        (span-agree m (blank u v s) (blank u v a) e i 0 n (omega arith) (λ r t hr _ ht. blank-same r t hr (omega arith)))
+        (real-same m (without u v s) (without u v a) i (λ hr. without-same i h hr low))
+        (span-agree m (without u v s) (without u v a) e i 0 n (omega arith) (λ r t hr _ ht. without-same r t hr (omega arith)))
 
-    pub rows-left : (i : ℕ) → i < m → ended m (blank u v s) 0 i k k ≡ crossing m a 0 i k k u ⊕ crossing m a 0 i k k v
+    pub rows-left : (i : ℕ) → i < m → ended m (without u v s) 0 i k k ≡ crossing m a 0 i k k u ⊕ crossing m a 0 i k k v
     rows-left i h =
         ended-same 0 i k k (omega arith) (omega arith)
         ∙ ended-but m a 0 i u v apart k k
@@ -209,7 +209,7 @@ module _ (m k : ℕ) (big : 1 < m) (few : k ≤ m) (a : Lane) (holds : Holds m k
         ∙ zero-⊕ (crossing m a 0 i k k u ⊕ crossing m a 0 i k k v)
 
     pub diagonals-left : (i : ℕ) → i < m
-        → ended m (blank u v s) 1 i (k + 1) k ≡ S m k a ⊕ (crossing m a 1 i (k + 1) k u ⊕ crossing m a 1 i (k + 1) k v)
+        → ended m (without u v s) 1 i (k + 1) k ≡ S m k a ⊕ (crossing m a 1 i (k + 1) k u ⊕ crossing m a 1 i (k + 1) k v)
     diagonals-left i h =
         ended-same 1 i (k + 1) k (omega arith) (omega arith)
         ∙ ended-but m a 1 i u v apart (k + 1) k

@@ -4,7 +4,6 @@ pub mod Rows
 pub mod Turned
 pub mod Equations
 pub mod Cells
-pub mod Seeds
 pub mod Valid
 pub mod Amounts
 pub mod Whole

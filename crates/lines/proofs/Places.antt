@@ -1,17 +1,20 @@
 -- Laws of places: places listed one after another, what their cells add up to, and lanes with nothing in some columns.
 --   listed-one, listed-none, listed-then   one place more, none, and some after others
---   listed-same, listed-ends               the same cells by another name, and within more bytes
+--   listed-same, listed-ends, listed-most   the same cells by another name, within more bytes, and fewer than might be
 --   total-none, total-more                 no place, and one more
 --   total-part, within-part                the first n places, lent as a part of `at`
---   blank-other, first-blank, second-blank   a column that is not left out, and those that are
---   blank-real, blank-first, blank-second    the same of a cell that may be imaginary
---   blank-span                             a line over columns none of which is left out
---   blank-one                              a line over the columns from 0 on but one
+--   window-start, window-first, window-next              a line over the first columns has its end, over others it has not
+--   follows-crosses                        a line that can be followed
+--   without-other, first-without, second-without   a column that is not left out, and those that are
+--   without-real, without-first, without-second    the same of a cell that may be imaginary
+--   without-span                             a line over columns none of which is left out
+--   without-one                              a line over the columns from 0 on but one
 use mathlib.Core.Path.{_≡_, refl, sym, ap, _∙_, subst}
 use mathlib.Core.Bool.{Bool, true, false, cond}
 use mathlib.Core.Logic.{_≢_}
 use mathlib.Core.List.{List}
 use Prim.Native.Nat.{ℕ, zero, suc, _+_, _-_, _*_, _≤_, _<_}
+use native.Mathlib.Nat.{mul-le-mul}
 use native.Mathlib.Numerals.{add-one}
 use native.Mathlib.Omega.{arith}
 use lib.Dec.{eqb, ltb}
@@ -25,8 +28,10 @@ use Rattle.parity.specs.Equations.{Lane, back}
 use Rattle.parity.proofs.Xor.{⊕-assoc, ⊕-zero, zero-⊕}
 use Rattle.parity.proofs.Sum.{sum-cong}
 use Rattle.cells.proofs.Parts.{part, part-at}
-use Rattle.lines.specs.Lines.{real, span}
-use Rattle.lines.specs.Places.{blank, total, Within, Listed}
+use Rattle.lines.specs.declared.Columns.{Columns}
+use Rattle.lines.specs.declared.Grid.{Grid}
+use Rattle.lines.specs.Lines.{real, span, ended, Crosses}
+use Rattle.lines.specs.Places.{without, window, total, Within, Listed, Follows}
 use Rattle.lines.proofs.Lines.{span-none, span-more, span-join}
 
 -- ---- places one after another
@@ -89,6 +94,9 @@ listed-same {n = n} {at = at} p e so = record {
 pub listed-ends : {b y z n k i : ℕ} {at v : List ℕ} {f : List ℕ → ℕ → ℕ} → y ≤ z → Listed b y n k i at v f → Listed b z n k i at v f
 listed-ends h p = record { size = p .size; least = p .least; most = p .most; sums = p .sums; within = λ o k w. p .within o (omega arith) w }
 
+pub listed-most : {b z n k i j : ℕ} {at v : List ℕ} {f : List ℕ → ℕ → ℕ} → i ≤ j → Listed b z n k i at v f → Listed b z n k j at v f
+listed-most h p = record { size = p .size; least = p .least; most = omega (arith, p .most); sums = p .sums; within = p .within }
+
 -- ---- the first n places, lent
 
 module _ (at : List ℕ) (n : ℕ) (room : n ≤ length at) where
@@ -102,6 +110,33 @@ module _ (at : List ℕ) (n : ℕ) (room : n ≤ length at) where
   pub within-part : (b z : ℕ) → Within at n b z → Within (part at 0 n) (length (part at 0 n)) b z
   within-part b z w x h = let k : x < n = subst (λ (y : ℕ). x < y) part-length h in subst (λ (q : ℕ). q + b ≤ z) (sym (part-at at 0 n x (omega arith) ∙ ap (λ (q : ℕ). getD at q 0) (omega arith))) (w x k)
 
+-- ---- a line over some columns, with its end where these are the first
+
+module _ (m k : ℕ) (a : Lane) (e i : ℕ) where
+  pub window-start : (y : ℕ) → window m k a e i 0 y ≡ real m a i (k + e) ⊕ span m a e i 0 y
+  unfolding window
+  window-start y = refl
+
+  pub window-first : (y : ℕ) → window m k a e i 0 y ≡ ended m a e i (k + e) y
+  unfolding window ended
+  window-first y = refl
+
+  pub window-next : (x y : ℕ) → x ≢ 0 → window m k a e i x y ≡ span m a e i x y
+  unfolding window
+  window-next x y h = ap (λ (c : Bool). cond c (real m a i (k + e)) 0 ⊕ span m a e i x y) (ne-eqb x 0 h) ∙ zero-⊕ (span m a e i x y)
+
+pub follows-crosses : {g : Grid} {e i : ℕ} {columns : Columns} → Follows g e i columns → Crosses (g .m) (g .column) (columns .to * g .column) e i (columns .from) (columns .to)
+follows-crosses {g} {e} {i} {columns} z =
+    let w : e * columns .to ≤ 1 * g .m = mul-le-mul (z .slant) (omega (arith, z .most, z .few)) in
+    record {
+      slant = z .slant;
+      inside = z .inside;
+      order = z .order;
+      within = omega (arith, w);
+      most = omega (arith, z .most, z .few, z .sized .few);
+      columns = omega arith;
+    }
+
 -- ---- lanes with nothing in some columns
 
 cond-none : (c : Bool) → _≡_ {A = ℕ} (cond c 0 0) 0
@@ -113,44 +148,44 @@ unfolding real
 real-none m a r t h = ap (λ (x : ℕ). cond (ltb r (m - 1)) x 0) h ∙ cond-none (ltb r (m - 1))
 
 module _ (m u v : ℕ) (a : Lane) where
-  pub blank-other : (r t : ℕ) → t ≢ u → t ≢ v → blank u v a r t ≡ a r t
-  unfolding blank
-  blank-other r t h k = ap (λ (c : Bool). cond c 0 (cond (eqb t v) 0 (a r t))) (ne-eqb t u h) ∙ ap (λ (c : Bool). cond c 0 (a r t)) (ne-eqb t v k)
+  pub without-other : (r t : ℕ) → t ≢ u → t ≢ v → without u v a r t ≡ a r t
+  unfolding without
+  without-other r t h k = ap (λ (c : Bool). cond c 0 (cond (eqb t v) 0 (a r t))) (ne-eqb t u h) ∙ ap (λ (c : Bool). cond c 0 (a r t)) (ne-eqb t v k)
 
-  pub blank-real : (r t : ℕ) → t ≢ u → t ≢ v → real m (blank u v a) r t ≡ real m a r t
+  pub without-real : (r t : ℕ) → t ≢ u → t ≢ v → real m (without u v a) r t ≡ real m a r t
   unfolding real
-  blank-real r t h k = ap (λ (x : ℕ). cond (ltb r (m - 1)) x 0) (blank-other r t h k)
+  without-real r t h k = ap (λ (x : ℕ). cond (ltb r (m - 1)) x 0) (without-other r t h k)
 
-  pub first-blank : (r t : ℕ) → t ≡ u → blank u v a r t ≡ 0
-  unfolding blank
-  first-blank r t h = ap (λ (c : Bool). cond c 0 (cond (eqb t v) 0 (a r t))) (eq-eqb t u h)
+  pub first-without : (r t : ℕ) → t ≡ u → without u v a r t ≡ 0
+  unfolding without
+  first-without r t h = ap (λ (c : Bool). cond c 0 (cond (eqb t v) 0 (a r t))) (eq-eqb t u h)
 
-  pub second-blank : (r t : ℕ) → t ≡ v → blank u v a r t ≡ 0
-  unfolding blank
-  second-blank r t h = ap (λ (c : Bool). cond (eqb t u) 0 (cond c 0 (a r t))) (eq-eqb t v h) ∙ cond-none (eqb t u)
+  pub second-without : (r t : ℕ) → t ≡ v → without u v a r t ≡ 0
+  unfolding without
+  second-without r t h = ap (λ (c : Bool). cond (eqb t u) 0 (cond c 0 (a r t))) (eq-eqb t v h) ∙ cond-none (eqb t u)
 
-  pub blank-first : (r t : ℕ) → t ≡ u → real m (blank u v a) r t ≡ 0
-  blank-first r t h = real-none m (blank u v a) r t (first-blank r t h)
+  pub without-first : (r t : ℕ) → t ≡ u → real m (without u v a) r t ≡ 0
+  without-first r t h = real-none m (without u v a) r t (first-without r t h)
 
-  pub blank-second : (r t : ℕ) → t ≡ v → real m (blank u v a) r t ≡ 0
-  blank-second r t h = real-none m (blank u v a) r t (second-blank r t h)
+  pub without-second : (r t : ℕ) → t ≡ v → real m (without u v a) r t ≡ 0
+  without-second r t h = real-none m (without u v a) r t (second-without r t h)
 
-  span-up : (d e i x y : ℕ) → y ≡ x + d → ((t : ℕ) → x ≤ t → t < y → (t ≢ u) × (t ≢ v)) → span m (blank u v a) e i x y ≡ span m a e i x y
+  span-up : (d e i x y : ℕ) → y ≡ x + d → ((t : ℕ) → x ≤ t → t < y → (t ≢ u) × (t ≢ v)) → span m (without u v a) e i x y ≡ span m a e i x y
   span-up zero e i x y q so =
       let p : x ≡ y = omega arith in
-      subst (λ (n : ℕ). span m (blank u v a) e i x n ≡ span m a e i x n) p (span-none m (blank u v a) e i x ∙ sym (span-none m a e i x))
+      subst (λ (n : ℕ). span m (without u v a) e i x n ≡ span m a e i x n) p (span-none m (without u v a) e i x ∙ sym (span-none m a e i x))
   span-up (suc d) e i x y q so =
       let n : ℕ = x + d in
       let p : n + 1 ≡ y = omega arith in
       let h = so n (omega arith) (omega arith) in
-      subst (λ (z : ℕ). span m (blank u v a) e i x z ≡ span m a e i x z) p
-      (sym (span-more m (blank u v a) e i x n)
-      ∙ ap (λ (z : ℕ). z ⊕ real m (blank u v a) (back m i (e * n)) n) (span-up d e i x n refl (λ t l k. so t l (omega arith)))
-      ∙ ap (λ (z : ℕ). span m a e i x n ⊕ z) (blank-real (back m i (e * n)) n (h .0) (h .1))
+      subst (λ (z : ℕ). span m (without u v a) e i x z ≡ span m a e i x z) p
+      (sym (span-more m (without u v a) e i x n)
+      ∙ ap (λ (z : ℕ). z ⊕ real m (without u v a) (back m i (e * n)) n) (span-up d e i x n refl (λ t l k. so t l (omega arith)))
+      ∙ ap (λ (z : ℕ). span m a e i x n ⊕ z) (without-real (back m i (e * n)) n (h .0) (h .1))
       ∙ span-more m a e i x n)
 
-  pub blank-span : (e i x y : ℕ) → x ≤ y → ((t : ℕ) → x ≤ t → t < y → (t ≢ u) × (t ≢ v)) → span m (blank u v a) e i x y ≡ span m a e i x y
-  blank-span e i x y h so = span-up (y - x) e i x y (omega arith) so
+  pub without-span : (e i x y : ℕ) → x ≤ y → ((t : ℕ) → x ≤ t → t < y → (t ≢ u) × (t ≢ v)) → span m (without u v a) e i x y ≡ span m a e i x y
+  without-span e i x y h so = span-up (y - x) e i x y (omega arith) so
 
 -- a column with nothing in it adds nothing
 span-over : (m : ℕ) (a : Lane) (u : ℕ) → ((r : ℕ) → real m a r u ≡ 0) → (e i x n : ℕ) → span m a e i x n ≡ span m a e i x u ⊕ span m a e i (u + 1) n
@@ -160,10 +195,10 @@ span-over m a u so e i x n =
     ∙ ap (λ (y : ℕ). span m a e i x u ⊕ y) (sym (span-join m a e i u (u + 1) n) ∙ ap (λ (y : ℕ). y ⊕ span m a e i (u + 1) n) none ∙ zero-⊕ (span m a e i (u + 1) n))
 
 module _ (m u : ℕ) (a : Lane) where
-  pub blank-one : (e i n : ℕ) → u < n → span m (blank u u a) e i 0 n ≡ span m a e i 0 u ⊕ span m a e i (u + 1) n
-  blank-one e i n h =
-      let below : span m (blank u u a) e i 0 u ≡ span m a e i 0 u = blank-span m u u a e i 0 u (omega arith) (λ t l k. (λ q. absurd (omega arith), λ q. absurd (omega arith))) in
-      let above : span m (blank u u a) e i (u + 1) n ≡ span m a e i (u + 1) n = blank-span m u u a e i (u + 1) n (omega arith) (λ t l k. (λ q. absurd (omega arith), λ q. absurd (omega arith))) in
-      span-over m (blank u u a) u (λ r. blank-first m u u a r u refl) e i 0 n
-      ∙ ap (λ (y : ℕ). y ⊕ span m (blank u u a) e i (u + 1) n) below
+  pub without-one : (e i n : ℕ) → u < n → span m (without u u a) e i 0 n ≡ span m a e i 0 u ⊕ span m a e i (u + 1) n
+  without-one e i n h =
+      let below : span m (without u u a) e i 0 u ≡ span m a e i 0 u = without-span m u u a e i 0 u (omega arith) (λ t l k. (λ q. absurd (omega arith), λ q. absurd (omega arith))) in
+      let above : span m (without u u a) e i (u + 1) n ≡ span m a e i (u + 1) n = without-span m u u a e i (u + 1) n (omega arith) (λ t l k. (λ q. absurd (omega arith), λ q. absurd (omega arith))) in
+      span-over m (without u u a) u (λ r. without-first m u u a r u refl) e i 0 n
+      ∙ ap (λ (y : ℕ). y ⊕ span m (without u u a) e i (u + 1) n) below
       ∙ ap (λ (y : ℕ). span m a e i 0 u ⊕ y) above

@@ -4,19 +4,20 @@
 --   span m a e i x y    the same over the columns from x up to y: the sum over all below y without that over all below x
 --   ended m a e i h n   line i over the first n columns with its end, the cell in row i of column h: H's cell ends a row, D's a diagonal
 --   rest x m a e i k t l   what lane l of the cell in row i of column t differs by from the cell x plus line i over the first k columns
---   seedOf fresh seed w at l   what lane l of the cell of w at `at` starts from: the cell `seed` where it is set afresh, else what it holds
 --   Sized m b c         the numbers of a shape, as far as loops need them, with c the bytes of a column
+--   Laid g s            these numbers, with k, and s as long as a stripe
 --   Crosses …           line i of slant e can be followed through the columns from x up to y of a stripe of n bytes
 use mathlib.Core.Path.{_≡_}
-use mathlib.Core.Bool.{Bool, cond}
+use mathlib.Core.Bool.{cond}
 use mathlib.Core.List.{List}
 use Prim.Native.Nat.{ℕ, _+_, _-_, _*_, _≤_, _<_}
 use lib.Dec.{ltb}
-use lib.ListN.{getD}
+use lib.ListN.{length, getD}
 use Rattle.parity.specs.Xor.{_⊕_}
 use Rattle.parity.specs.Sum.{sum}
 use Rattle.parity.specs.Shape.{columnLength}
 use Rattle.parity.specs.Equations.{Lane, back}
+use Rattle.lines.specs.declared.Grid.{Grid}
 
 unfoldable pub real : ℕ → Lane → ℕ → ℕ → ℕ
 real m a r t = cond (ltb r (m - 1)) (a r t) 0
@@ -33,9 +34,6 @@ ended m a e i h n = real m a i h ⊕ span m a e i 0 n
 unfoldable pub rest : List ℕ → ℕ → Lane → ℕ → ℕ → ℕ → ℕ → ℕ → ℕ
 rest x m a e i k t l = getD x l 0 ⊕ line m a e i k ⊕ real m a i t
 
-unfoldable pub seedOf : Bool → List ℕ → List ℕ → ℕ → ℕ → ℕ
-seedOf fresh seed w at l = cond fresh (getD seed l 0) (getD w (at + l) 0)
-
 pub record Sized (m b c : ℕ) : Type 0 where
   pub big : 1 < m
   pub few : m ≤ 127
@@ -43,10 +41,16 @@ pub record Sized (m b c : ℕ) : Type 0 where
   pub short : b ≤ 4096
   pub column : c ≡ columnLength m b
 
+pub record Laid (g : Grid) (s : List ℕ) : Type 0 where
+  pub sized : Sized (g .m) (g .b) (g .column)
+  pub some : 1 ≤ g .k
+  pub few : g .k ≤ g .m
+  pub whole : length s ≡ (g .k + 2) * g .column
+
 pub record Crosses (m c n e i x y : ℕ) : Type 0 where
   pub slant : e ≤ 1
   pub inside : i < m
   pub order : x ≤ y
   pub within : e * y ≤ m
-  pub most : y ≤ 129
+  pub most : y ≤ 256
   pub columns : y * c ≤ n

@@ -1,5 +1,8 @@
 -- Where the cells of a line begin in a stripe. The loops that sum cells are given their places, and know nothing of lines.
---   blank u v a         the lane a with nothing in columns u and v
+--   without u v a       the lane a with nothing in columns u and v
+--   window m k a e i x y   line i of slant e over the columns from x up to y, and where these are the first with its end: row i of H for a row, of
+--                       D for a diagonal
+--   Follows g e i columns   line i can be followed through those columns, which are data columns
 --   total at n s l      the sum of byte l of the cells of s that begin at the first n places of `at`
 --   Within at n b z     each of those cells, of b bytes, ends within the first z bytes
 --   Listed …            after the first n places of `at` stand others, at most `more`, up to place n′ of `at′`; their cells, whatever
@@ -13,9 +16,23 @@ use lib.ListN.{length, getD}
 use Rattle.parity.specs.Xor.{_⊕_}
 use Rattle.parity.specs.Sum.{sum}
 use Rattle.parity.specs.Equations.{Lane}
+use Rattle.lines.specs.declared.Columns.{Columns}
+use Rattle.lines.specs.declared.Grid.{Grid}
+use Rattle.lines.specs.Lines.{real, span, Sized}
 
-unfoldable pub blank : ℕ → ℕ → Lane → Lane
-blank u v a r t = cond (eqb t u) 0 (cond (eqb t v) 0 (a r t))
+unfoldable pub without : ℕ → ℕ → Lane → Lane
+without u v a r t = cond (eqb t u) 0 (cond (eqb t v) 0 (a r t))
+
+unfoldable pub window : ℕ → ℕ → Lane → ℕ → ℕ → ℕ → ℕ → ℕ
+window m k a e i x y = cond (eqb x 0) (real m a i (k + e)) 0 ⊕ span m a e i x y
+
+pub record Follows (g : Grid) (e i : ℕ) (columns : Columns) : Type 0 where
+  pub sized : Sized (g .m) (g .b) (g .column)
+  pub few : g .k ≤ g .m
+  pub slant : e ≤ 1
+  pub inside : i < g .m
+  pub order : columns .from ≤ columns .to
+  pub most : columns .to ≤ g .k
 
 unfoldable pub total : List ℕ → ℕ → List ℕ → ℕ → ℕ
 total at n s l = sum n (λ x. getD s (getD at x 0 + l) 0)

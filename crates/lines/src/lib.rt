@@ -1,20 +1,31 @@
-// Lines of cells in a stripe, and their sums. A row goes straight across the columns (slant 0), a diagonal one row up from column to
-// column (slant 1); from row 0 it goes on to row m - 1, which is imaginary and zero.
+// Lines of cells in a stripe, and where their cells stand. A row goes straight across the columns (slant 0), a diagonal one row up from
+// column to column (slant 1); from row 0 it goes on to row m - 1, which is imaginary and zero. A line ends in a parity column: a row with
+// H's cell in that row, a diagonal with D's cell in the row of its number.
 ghost use mathlib.Core.Path.{_≡_};
-ghost use Prim.Native.Nat.{_+_, _*_, _-_, _≤_, _<_};
+ghost use Prim.Native.Nat.{_+_, _*_, _-_, _%_, _≤_, _<_};
 ghost use lib.ListN.{length, getD};
 ghost use Rattle.parity.specs.Xor.{_⊕_};
 ghost use Rattle.parity.specs.Equations.{back};
 ghost use Rattle.parity.specs.Stripe.{lane};
-ghost use Rattle.cells.specs.Runs.{Added, Put};
+ghost use Rattle.cells.specs.Runs.{Added};
 ghost use Rattle.lines.specs.Lines.{real, span, Sized, Crosses};
-ghost use Rattle.lines.specs.Places.{blank, total, Within, Listed};
+ghost use Rattle.lines.specs.Places.{without, window, total, Within, Listed, Follows};
+ghost use Rattle.lines.specs.Rows.{Lined};
 
-// The rows of a column, counted with the imaginary one, the bytes of a cell, and those of a column.
+// The numbers of a shape, and the bytes of a column.
 pub struct Grid {
     pub m: usize,
+    pub k: usize,
     pub b: usize,
     pub column: usize,
+}
+
+// Some columns of a stripe: those from `from` up to `to`, but u and v. A number that no column of the stripe has leaves none out.
+pub struct Columns {
+    pub from: usize,
+    pub to: usize,
+    pub u: usize,
+    pub v: usize,
 }
 
 // The row that is `up` rows above row r, modulo m.
@@ -28,89 +39,31 @@ pub fn row_above(m: usize, r: usize, up: usize) -> usize
     r - up
 }
 
-// Adds the lanes from j on of the cell in row r of column t to acc.
-pub fn add_cell(acc: &mut [u8], s: &[u8], g: Grid, t: usize, r: usize, j: usize)
-    requires { ⌜ (j + length (now acc) ≤ g .b) × (t * g .column + g .column ≤ length (now s)) × Sized (g .m) (g .b) (g .column) ⌝ }
-    ensures { λ _. ⌜ Added (now (acc .entry)) (now (acc .exit)) (λ l. real (g .m) (lane (g .m) (g .b) (now (s .entry)) (j + l)) r t) ⌝ }
+// The row below row r, modulo m.
+pub fn row_below(m: usize, r: usize) -> usize
+    requires { ⌜ (r < m) × (m ≤ 127) ⌝ }
+    ensures { λ x. ⌜ x ≡ (r + 1) % m ⌝ }
 {
-    let m = g.m;
-    if r < m - 1 {
-        let n = g.column;
-        let b = g.b;
-        let from = t * n;
-        let column = &s[from..from + n];
-        let at = r * b + j;
-        cells::xor_into(acc, &column[at..at + acc.len()]);
+    if r + 1 < m {
+        return r + 1;
     }
+    0
 }
 
-// Adds the lanes from j on of line i, over the columns from t0 up to t1, to acc.
-fn add_span(
-    acc: &mut [u8],
-    s: &[u8],
-    g: Grid,
-    slant: usize,
-    i: usize,
-    t0: usize,
-    t1: usize,
-    j: usize,
-)
-    requires { ⌜ (j + length (now acc) ≤ g .b) × Sized (g .m) (g .b) (g .column) × Crosses (g .m) (g .column) (length (now s)) slant i t0 t1 ⌝ }
-    ensures { λ _. ⌜ Added (now (acc .entry)) (now (acc .exit)) (λ l. span (g .m) (lane (g .m) (g .b) (now (s .entry)) (j + l)) slant i t0 t1) ⌝ }
+// Where a group of at most eight columns that begins at t ends: so few streams are read at once.
+pub fn group_end(t: usize, end: usize) -> usize
+    requires { ⌜ (t < end) × (end ≤ 256) ⌝ }
+    ensures { λ e. ⌜ (t < e) × (e ≤ end) × (e ≤ t + 8) ⌝ }
 {
-    let m = g.m;
-    let mut r = row_above(m, i, slant * t0);
-    for t in t0..t1 {
-        add_cell(acc, s, g, t, r, j);
-        r = row_above(m, r, slant);
-    }
-}
-
-// acc becomes the lanes from j on of the cell seed; an empty seed is zero.
-pub fn start(acc: &mut [u8], seed: &[u8], j: usize)
-    requires { ⌜ (0 < length (now seed) → j + length (now acc) ≤ length (now seed)) ⌝ }
-    ensures { λ _. ⌜ Put (now (acc .entry)) (now (acc .exit)) 0 (length (now (acc .entry))) (λ l. getD (now (seed .entry)) (j + l) 0) ⌝ }
-{
-    if seed.len() == 0 {
-        cells::zero(acc);
-    } else {
-        cells::copy_into(acc, &seed[j..j + acc.len()]);
-    }
-}
-
-// acc becomes the lanes from j on of the cell seed plus line i over the columns from t0 up to t1.
-pub fn sum_part(
-    acc: &mut [u8],
-    seed: &[u8],
-    s: &[u8],
-    g: Grid,
-    slant: usize,
-    i: usize,
-    t0: usize,
-    t1: usize,
-    j: usize,
-)
-    requires { ⌜ (0 < length (now seed) → j + length (now acc) ≤ length (now seed)) × (j + length (now acc) ≤ g .b) × Sized (g .m) (g .b) (g .column) × Crosses (g .m) (g .column) (length (now s)) slant i t0 t1 ⌝ }
-    ensures { λ _. ⌜ Put (now (acc .entry)) (now (acc .exit)) 0 (length (now (acc .entry))) (λ l. getD (now (seed .entry)) (j + l) 0 ⊕ span (g .m) (lane (g .m) (g .b) (now (s .entry)) (j + l)) slant i t0 t1) ⌝ }
-{
-    start(acc, seed, j);
-    add_span(acc, s, g, slant, i, t0, t1, j);
-}
-
-// Where a group of at most eight columns that begins at t ends.
-pub fn group_end(t: usize, t1: usize) -> usize
-    requires { ⌜ (t < t1) × (t1 ≤ 129) ⌝ }
-    ensures { λ e. ⌜ (t < e) × (e ≤ t1) × (e ≤ t + 8) ⌝ }
-{
-    if t + 8 < t1 {
+    if t + 8 < end {
         return t + 8;
     }
-    t1
+    end
 }
 
 // Puts the place of the cell in row r of column t after the first n places of `at`, unless it is imaginary. How many there are then.
 pub fn add_place(at: &mut [usize], n: usize, g: Grid, t: usize, r: usize) -> usize
-    requires { ⌜ (n < length (now at)) × (t < 129) × Sized (g .m) (g .b) (g .column) ⌝ }
+    requires { ⌜ (n < length (now at)) × (t < 256) × Sized (g .m) (g .b) (g .column) ⌝ }
     ensures { λ x. ⌜ Listed (g .b) (t * g .column + g .column) n x 1 (now (at .entry)) (now (at .exit)) (λ s l. real (g .m) (lane (g .m) (g .b) s l) r t) ⌝ }
 {
     let m = g.m;
@@ -123,7 +76,7 @@ pub fn add_place(at: &mut [usize], n: usize, g: Grid, t: usize, r: usize) -> usi
     n
 }
 
-// The same, unless t is u or v.
+// Puts that place there, unless t is u or v: what stands in a column that is left out is not looked at. How many there are then.
 pub fn add_place_but(
     at: &mut [usize],
     n: usize,
@@ -133,8 +86,8 @@ pub fn add_place_but(
     u: usize,
     v: usize,
 ) -> usize
-    requires { ⌜ (n < length (now at)) × (t < 129) × Sized (g .m) (g .b) (g .column) ⌝ }
-    ensures { λ x. ⌜ Listed (g .b) (t * g .column + g .column) n x 1 (now (at .entry)) (now (at .exit)) (λ s l. real (g .m) (blank u v (lane (g .m) (g .b) s l)) r t) ⌝ }
+    requires { ⌜ (n < length (now at)) × (t < 256) × Sized (g .m) (g .b) (g .column) ⌝ }
+    ensures { λ x. ⌜ Listed (g .b) (t * g .column + g .column) n x 1 (now (at .entry)) (now (at .exit)) (λ s l. real (g .m) (without u v (lane (g .m) (g .b) s l)) r t) ⌝ }
 {
     if t == u {
         return n;
@@ -145,30 +98,41 @@ pub fn add_place_but(
     add_place(at, n, g, t, r)
 }
 
-// Puts the places of the cells of line i, in the columns from t0 up to t1 but u and v, after the first n places of `at`. How many there
-// are then.
+// Puts the places of the cells that line i has in those columns after the first n places of `at`. How many there are then.
 pub fn add_places(
     at: &mut [usize],
     n: usize,
     g: Grid,
     slant: usize,
     i: usize,
-    t0: usize,
-    t1: usize,
-    u: usize,
-    v: usize,
+    columns: Columns,
 ) -> usize
-    requires { ⌜ (n + (t1 - t0) ≤ length (now at)) × Sized (g .m) (g .b) (g .column) × Crosses (g .m) (g .column) (t1 * g .column) slant i t0 t1 ⌝ }
-    ensures { λ x. ⌜ Listed (g .b) (t1 * g .column) n x (t1 - t0) (now (at .entry)) (now (at .exit)) (λ s l. span (g .m) (blank u v (lane (g .m) (g .b) s l)) slant i t0 t1) ⌝ }
+    requires { ⌜ (n + (columns .to - columns .from) ≤ length (now at)) × Sized (g .m) (g .b) (g .column) × Crosses (g .m) (g .column) (columns .to * g .column) slant i (columns .from) (columns .to) ⌝ }
+    ensures { λ x. ⌜ Listed (g .b) (columns .to * g .column) n x (columns .to - columns .from) (now (at .entry)) (now (at .exit)) (λ s l. span (g .m) (without (columns .u) (columns .v) (lane (g .m) (g .b) s l)) slant i (columns .from) (columns .to)) ⌝ }
 {
     let m = g.m;
+    let from = columns.from;
+    let to = columns.to;
     let mut x = n;
-    let mut r = row_above(m, i, slant * t0);
-    for t in t0..t1 {
-        x = add_place_but(at, x, g, t, r, u, v);
+    let mut r = row_above(m, i, slant * from);
+    for t in from..to {
+        x = add_place_but(at, x, g, t, r, columns.u, columns.v);
         r = row_above(m, r, slant);
     }
     x
+}
+
+// Puts the places of the cells that line i has in those columns first in `at`, and where the columns are the first of the stripe that of its end too.
+// How many there are.
+pub fn find_line(at: &mut [usize], g: Grid, slant: usize, i: usize, columns: Columns) -> usize
+    requires { ⌜ (columns .to - columns .from < length (now at)) × Follows g slant i columns ⌝ }
+    ensures { λ x. ⌜ Listed (g .b) ((g .k + 2) * g .column) 0 x (columns .to - columns .from + 1) (now (at .entry)) (now (at .exit)) (λ s l. window (g .m) (g .k) (without (columns .u) (columns .v) (lane (g .m) (g .b) s l)) slant i (columns .from) (columns .to)) ⌝ }
+{
+    if columns.from != 0 {
+        return add_places(at, 0, g, slant, i, columns);
+    }
+    let n = add_place_but(at, 0, g, g.k + slant, i, columns.u, columns.v);
+    add_places(at, n, g, slant, i, columns)
 }
 
 // Adds the lanes from j on of the cells of s at those places to acc.
@@ -182,32 +146,45 @@ pub fn add_cells(acc: &mut [u8], s: &[u8], at: &[usize], j: usize)
     }
 }
 
-// The end e of some columns from t on, one later where u is among them.
-fn stretch(t: usize, e: usize, u: usize) -> usize
-    requires { ⌜ e ≤ 1000 ⌝ }
-    ensures { λ r. ⌜ (e ≤ r) × (r ≤ e + 1) ⌝ }
+// The m - 1 cells of w get column t of s, turned by `turn` rows, added: cell r gets row r - turn modulo m. That is two runs: the cells from
+// `turn` on get those from row 0 on, and the cells below turn - 1 those from row m - turn on. Cell turn - 1 gets the imaginary row, that is nothing.
+pub fn add_turned(w: &mut [u8], s: &[u8], g: Grid, t: usize, turn: usize)
+    requires { ⌜ (g .column ≤ length (now w)) × (t * g .column + g .column ≤ length (now s)) × (turn < g .m) × Sized (g .m) (g .b) (g .column) ⌝ }
+    ensures { λ _. ⌜ Lined (g .m - 1) (g .b) 0 (now (w .entry)) (now (w .exit)) (λ r l. getD (now (w .entry)) (0 + (r * g .b + l)) 0 ⊕ real (g .m) (lane (g .m) (g .b) (now (s .entry)) l) (back (g .m) r turn) t) ⌝ }
 {
-    if t <= u {
-        if u < e {
-            return e + 1;
-        }
+    let m = g.m;
+    let b = g.b;
+    let c = g.column;
+    let from = t * c;
+    cells::add_run(w, turn * b, s, from, (m - 1 - turn) * b);
+    if 1 < turn {
+        cells::add_run(w, 0, s, from + (m - turn) * b, (turn - 1) * b);
     }
-    e
 }
 
-// Where a group of at most eight columns other than u and v, the first of them from t on, ends. Where at most ten columns are left, they are
-// one group.
-pub fn group_but(t: usize, t1: usize, u: usize, v: usize) -> usize
-    requires { ⌜ (t ≤ t1) × (t1 ≤ 129) ⌝ }
-    ensures { λ e. ⌜ (t ≤ e) × (e ≤ t1) × (e ≤ t + 10) × (t < t1 → t < e) ⌝ }
+// The m - 1 cells of w from `at` on get column t of w itself, which ends before them, added in this way.
+pub fn add_turned_within(w: &mut [u8], at: usize, g: Grid, t: usize, turn: usize)
+    requires { ⌜ (at + g .column ≤ length (now w)) × (t * g .column + g .column ≤ at) × (turn < g .m) × Sized (g .m) (g .b) (g .column) ⌝ }
+    ensures { λ _. ⌜ Lined (g .m - 1) (g .b) at (now (w .entry)) (now (w .exit)) (λ r l. getD (now (w .entry)) (at + (r * g .b + l)) 0 ⊕ real (g .m) (lane (g .m) (g .b) (now (w .entry)) l) (back (g .m) r turn) t) ⌝ }
 {
-    if t1 <= t + 10 {
-        return t1;
+    let m = g.m;
+    let b = g.b;
+    let c = g.column;
+    let from = t * c;
+    cells::add_within(w, at + turn * b, from, (m - 1 - turn) * b);
+    if 1 < turn {
+        cells::add_within(w, at, from + (m - turn) * b, (turn - 1) * b);
     }
-    let x = stretch(t, t + 8, u);
-    let e = stretch(t, x, v);
-    if e < t1 {
-        return e;
+}
+
+// Each of the m - 1 cells of w from `at` on but the last gets the last one added.
+pub fn spread(w: &mut [u8], at: usize, g: Grid)
+    requires { ⌜ (at + g .column ≤ length (now w)) × Sized (g .m) (g .b) (g .column) ⌝ }
+    ensures { λ _. ⌜ Lined (g .m - 2) (g .b) at (now (w .entry)) (now (w .exit)) (λ r l. getD (now (w .entry)) (at + (r * g .b + l)) 0 ⊕ getD (now (w .entry)) (at + (g .m - 2) * g .b + l) 0) ⌝ }
+{
+    let b = g.b;
+    let last = at + (g.m - 2) * b;
+    for r in 0..g.m - 2 {
+        cells::add_within(w, at + r * b, last, b);
     }
-    t1
 }

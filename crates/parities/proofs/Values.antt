@@ -17,8 +17,8 @@ use Rattle.cells.specs.Runs.{Put}
 use Rattle.cells.proofs.Puts.{put-next, put-same, put-count}
 use Rattle.cells.proofs.Parts.{part}
 use Rattle.lines.specs.Lines.{span}
-use Rattle.lines.specs.Places.{blank, total, Listed}
-use Rattle.lines.proofs.Places.{total-none, total-part, blank-span}
+use Rattle.lines.specs.Places.{without, total, Listed}
+use Rattle.lines.proofs.Places.{total-none, total-part, without-span}
 use Rattle.parities.specs.Sums.{held, Reads}
 
 pub held-seed : {seeded : Bool} (s : List ℕ) (p : ℕ) → seeded ≡ true → held seeded s p ≡ getD s p 0
@@ -29,12 +29,12 @@ pub held-none : {seeded : Bool} (s : List ℕ) (p : ℕ) → seeded ≡ false �
 unfolding held
 held-none s p e = rw e
 
-pub line-places : (m b e i x y : ℕ) {z n more : ℕ} {at v : List ℕ} → Listed b z 0 n more at v (λ s l. span m (blank 129 129 (lane m b s l)) e i x y)
+pub line-places : (m b e i x y : ℕ) {z n more : ℕ} {at v : List ℕ} → Listed b z 0 n more at v (λ s l. span m (without 129 129 (lane m b s l)) e i x y)
     → n ≤ length v → x ≤ y → y ≤ 129 → (s : List ℕ) (l : ℕ) → total (part v 0 n) (length (part v 0 n)) s l ≡ span m (lane m b s l) e i x y
 line-places m b e i x y {n = n} {at = at} {v} p room order most s l =
     total-part v n room s l ∙ p .sums s l
-    ∙ ap (λ (z : ℕ). z ⊕ span m (blank 129 129 (lane m b s l)) e i x y) (total-none at s l) ∙ zero-⊕ (span m (blank 129 129 (lane m b s l)) e i x y)
-    ∙ blank-span m 129 129 (lane m b s l) e i x y order (λ t h₁ h₂. (λ q. absurd (omega arith), λ q. absurd (omega arith)))
+    ∙ ap (λ (z : ℕ). z ⊕ span m (without 129 129 (lane m b s l)) e i x y) (total-none at s l) ∙ zero-⊕ (span m (without 129 129 (lane m b s l)) e i x y)
+    ∙ without-span m 129 129 (lane m b s l) e i x y order (λ t h₁ h₂. (λ q. absurd (omega arith), λ q. absurd (omega arith)))
 
 module _ {at : List ℕ} {b from to n : ℕ} (r : Reads at b from to n) where
   pub reads-part : (a v : ℕ) → a ≤ b → v ≡ n → Reads at a from to v

@@ -5,7 +5,7 @@ ghost use lib.ListN.{length, getD};
 ghost use Rattle.parity.specs.Xor.{_⊕_};
 ghost use Rattle.parity.specs.Stripe.{lane};
 ghost use Rattle.lines.specs.Lines.{span, ended, Sized, Crosses};
-ghost use Rattle.lines.specs.Places.{blank};
+ghost use Rattle.lines.specs.Places.{without};
 ghost use Rattle.lines.specs.Rows.{Lined};
 
 // Of the `rows` cells from `at` on each cell r becomes the cell seed, of which an empty one is zero, plus line r + shift modulo m over
@@ -128,7 +128,7 @@ fn first_by_cells(
     v: usize,
 )
     requires { ⌜ (0 < length (now seed) → g .b ≤ length (now seed)) × (at + rows * g .b ≤ length (now w)) × (rows < g .m) × (shift < g .m) × (n ≤ 10) × (h < 129) × (h * g .column + g .column ≤ length (now s)) × Sized (g .m) (g .b) (g .column) × Crosses (g .m) (g .column) (length (now s)) slant 0 0 n ⌝ }
-    ensures { λ _. ⌜ Lined rows (g .b) at (now (w .entry)) (now (w .exit)) (λ r l. getD (now (seed .entry)) l 0 ⊕ ended (g .m) (blank u v (lane (g .m) (g .b) (now (s .entry)) l)) slant ((r + shift) % g .m) h n) ⌝ }
+    ensures { λ _. ⌜ Lined rows (g .b) at (now (w .entry)) (now (w .exit)) (λ r l. getD (now (seed .entry)) l 0 ⊕ ended (g .m) (without u v (lane (g .m) (g .b) (now (s .entry)) l)) slant ((r + shift) % g .m) h n) ⌝ }
 {
     let m = g.m;
     let b = g.b;
@@ -155,7 +155,7 @@ fn first_by_columns(
     v: usize,
 )
     requires { ⌜ (0 < length (now seed) → g .b ≤ length (now seed)) × (at + rows * g .b ≤ length (now w)) × (rows < g .m) × (shift < g .m) × (h < 129) × (h * g .column + g .column ≤ length (now s)) × Sized (g .m) (g .b) (g .column) × Crosses (g .m) (g .column) (length (now s)) slant 0 0 n ⌝ }
-    ensures { λ _. ⌜ Lined rows (g .b) at (now (w .entry)) (now (w .exit)) (λ r l. getD (now (seed .entry)) l 0 ⊕ ended (g .m) (blank u v (lane (g .m) (g .b) (now (s .entry)) l)) slant ((r + shift) % g .m) h n) ⌝ }
+    ensures { λ _. ⌜ Lined rows (g .b) at (now (w .entry)) (now (w .exit)) (λ r l. getD (now (seed .entry)) l 0 ⊕ ended (g .m) (without u v (lane (g .m) (g .b) (now (s .entry)) l)) slant ((r + shift) % g .m) h n) ⌝ }
 {
     let b = g.b;
     seed_rows(w, at, seed, rows, b);
@@ -179,7 +179,7 @@ pub fn set_first(
     v: usize,
 )
     requires { ⌜ (0 < length (now seed) → g .b ≤ length (now seed)) × (at + rows * g .b ≤ length (now w)) × (rows < g .m) × (shift < g .m) × (n ≤ 10) × (h < 129) × (h * g .column + g .column ≤ length (now s)) × Sized (g .m) (g .b) (g .column) × Crosses (g .m) (g .column) (length (now s)) slant 0 0 n ⌝ }
-    ensures { λ _. ⌜ Lined rows (g .b) at (now (w .entry)) (now (w .exit)) (λ r l. getD (now (seed .entry)) l 0 ⊕ ended (g .m) (blank u v (lane (g .m) (g .b) (now (s .entry)) l)) slant ((r + shift) % g .m) h n) ⌝ }
+    ensures { λ _. ⌜ Lined rows (g .b) at (now (w .entry)) (now (w .exit)) (λ r l. getD (now (seed .entry)) l 0 ⊕ ended (g .m) (without u v (lane (g .m) (g .b) (now (s .entry)) l)) slant ((r + shift) % g .m) h n) ⌝ }
 {
     if 128 <= g.b {
         first_by_cells(w, at, seed, s, g, slant, shift, rows, h, n, u, v);
@@ -204,7 +204,7 @@ fn set_by_groups(
     v: usize,
 )
     requires { ⌜ (0 < length (now seed) → g .b ≤ length (now seed)) × (at + rows * g .b ≤ length (now w)) × (rows < g .m) × (shift < g .m) × (h < 129) × (h * g .column + g .column ≤ length (now s)) × Sized (g .m) (g .b) (g .column) × Crosses (g .m) (g .column) (length (now s)) slant 0 0 n ⌝ }
-    ensures { λ _. ⌜ Lined rows (g .b) at (now (w .entry)) (now (w .exit)) (λ r l. getD (now (seed .entry)) l 0 ⊕ ended (g .m) (blank u v (lane (g .m) (g .b) (now (s .entry)) l)) slant ((r + shift) % g .m) h n) ⌝ }
+    ensures { λ _. ⌜ Lined rows (g .b) at (now (w .entry)) (now (w .exit)) (λ r l. getD (now (seed .entry)) l 0 ⊕ ended (g .m) (without u v (lane (g .m) (g .b) (now (s .entry)) l)) slant ((r + shift) % g .m) h n) ⌝ }
 {
     let e = lines::group_but(0, n, u, v);
     first_by_cells(w, at, seed, s, g, slant, shift, rows, h, e, u, v);
@@ -227,7 +227,7 @@ pub fn set_ended(
     v: usize,
 )
     requires { ⌜ (0 < length (now seed) → g .b ≤ length (now seed)) × (at + rows * g .b ≤ length (now w)) × (rows < g .m) × (shift < g .m) × (h < 129) × (h * g .column + g .column ≤ length (now s)) × Sized (g .m) (g .b) (g .column) × Crosses (g .m) (g .column) (length (now s)) slant 0 0 n ⌝ }
-    ensures { λ _. ⌜ Lined rows (g .b) at (now (w .entry)) (now (w .exit)) (λ r l. getD (now (seed .entry)) l 0 ⊕ ended (g .m) (blank u v (lane (g .m) (g .b) (now (s .entry)) l)) slant ((r + shift) % g .m) h n) ⌝ }
+    ensures { λ _. ⌜ Lined rows (g .b) at (now (w .entry)) (now (w .exit)) (λ r l. getD (now (seed .entry)) l 0 ⊕ ended (g .m) (without u v (lane (g .m) (g .b) (now (s .entry)) l)) slant ((r + shift) % g .m) h n) ⌝ }
 {
     if 128 <= g.b {
         set_by_groups(w, at, seed, s, g, slant, shift, rows, h, n, u, v);

@@ -6,7 +6,7 @@ use Rattle.parity.specs.Xor.{_⊕_}
 use Rattle.parity.specs.Equations.{Lane}
 use Rattle.parity.specs.Stripe.{lane}
 use Rattle.lines.specs.Lines.{span}
-use Rattle.lines.specs.Places.{blank}
+use Rattle.lines.specs.Places.{without}
 use Rattle.lines.proofs.Lines.{back-lt}
 use Rattle.lines.proofs.Places.{listed-then}
 use Rattle.breaks.proofs.Buts.{part-row, part-data, part-diagonal}
@@ -55,7 +55,7 @@ returns-2 c =
     let z = c .before .before .before .before .before .before .before .before .before .before .before .before in
     let a = z .args in
     listed-as (mul-le-mul-right (a .g .column) (omega (arith, z .pre .3))) (omega arith) (λ s l.
-    let x : Lane = blank (a .u) (a .u) (lane (a .g .m) (a .g .b) s l) in
+    let x : Lane = without (a .u) (a .u) (lane (a .g .m) (a .g .b) s l) in
     ap (λ (r : ℕ). span (a .g .m) x 1 (a .d) (a .t0) (a .t1) ⊕ span (a .g .m) x 0 r (a .t0) (a .t1)) (c .before .before .before .before .row-above .ensures)
     ∙ part-data (a .g .m) (a .k) (lane (a .g .m) (a .g .b) s l) (a .u) (a .d) (a .t0) (a .t1) (c .before .before .before .before .before .if2 .taken))
     (listed-then (le-refl (a .t1 * a .g .column)) (c .before .before .before .before .before .before .before .before .add-places2 .ensures) (c .before .before .add-places3 .ensures))

@@ -9,7 +9,7 @@ use Rattle.parity.specs.Stripe.{lane}
 use Rattle.cells.proofs.Parts.{parts-end}
 use Rattle.cells.proofs.Puts.{put-same}
 use Rattle.lines.specs.Lines.{span}
-use Rattle.lines.specs.Places.{blank}
+use Rattle.lines.specs.Places.{without}
 use Rattle.lines.proofs.Lines.{crosses-line}
 use Rattle.lines.proofs.Rows.{Grown, lined-none, lined-count, grown-more}
 use Rattle.fill.proofs.Sweeps.{lineBut, line-lt, line-next}
@@ -69,7 +69,7 @@ loop-again c =
       omega arith,
       c .row-below .ensures ∙ ap (λ (x : ℕ). (x + 1) % a .g .m) (y .inv .1) ∙ line-next (a .g .m) (y .r) (a .shift),
       grown-more (y .r) (a .g .b) (a .at) (now (a .w)) (y .w) (z .last .0) (lineBut (a .g .m) (a .g .b) (a .u) (a .v) (now (a .s)) (a .slant) (a .shift) (a .t0) (a .t1)) (y .inv .2) (put-same (z .ensures) (λ l h.
-          ap (λ (x : ℕ). getD (y .w) (a .at + y .r * a .g .b + l) 0 ⊕ span (a .g .m) (blank (a .u) (a .v) (lane (a .g .m) (a .g .b) (now (a .s)) l)) (a .slant) x (a .t0) (a .t1)) (y .inv .1))),
+          ap (λ (x : ℕ). getD (y .w) (a .at + y .r * a .g .b + l) 0 ⊕ span (a .g .m) (without (a .u) (a .v) (lane (a .g .m) (a .g .b) (now (a .s)) l)) (a .slant) x (a .t0) (a .t1)) (y .inv .1))),
     )
 
 same-length : tie.Need-same-length Inv-loop μ-loop

@@ -6,7 +6,7 @@ use denote.Ref.{now}
 use Rattle.parity.specs.Xor.{_⊕_}
 use Rattle.parity.specs.Stripe.{lane}
 use Rattle.lines.specs.Lines.{span, Crosses}
-use Rattle.lines.specs.Places.{blank}
+use Rattle.lines.specs.Places.{without}
 use Rattle.lines.proofs.Rows.{lined-same}
 use Rattle.lines.proofs.Whole.{whole-line}
 use native.Mathlib.Omega.{arith}
@@ -36,7 +36,7 @@ returns c =
     let a = z .args in
     let h = c .before .before .before .before .before .is-whole .ensures (c .before .before .before .before .if1 .taken) in
     lined-same (c .before .before .add-whole .ensures) (λ r l hr hl.
-    ap₂ (λ (e i : ℕ). getD (now (a .w)) (a .at + (r * a .g .b + l)) 0 ⊕ span (a .g .m) (blank (a .u) (a .v) (lane (a .g .m) (a .g .b) (now (a .s)) l)) e i (a .t0) (a .t1))
+    ap₂ (λ (e i : ℕ). getD (now (a .w)) (a .at + (r * a .g .b + l)) 0 ⊕ span (a .g .m) (without (a .u) (a .v) (lane (a .g .m) (a .g .b) (now (a .s)) l)) e i (a .t0) (a .t1))
     (sym (h .0))
     (sym (ap (λ (x : ℕ). (r + x) % a .g .m) (h .1) ∙ whole-line (omega arith))))
 

@@ -9,7 +9,7 @@ use Rattle.parity.proofs.Xor.{⊕-assoc, ⊕-zero}
 use Rattle.cells.specs.Runs.{Put}
 use Rattle.cells.proofs.Puts.{put-kept, put-same, put-again}
 use Rattle.lines.specs.Lines.{span}
-use Rattle.lines.specs.Places.{blank}
+use Rattle.lines.specs.Places.{without}
 use Rattle.lines.proofs.Lines.{span-none, span-join, crosses-columns}
 use borrow.Author.Needs.{needs}
 use native.Mathlib.Omega.{arith}
@@ -18,7 +18,7 @@ use Rattle.fill.proofs.add_groups.Tie as tie
 
 abbrev Inv-loop : tie.InvT-loop
 Inv-loop w₀ s g slant i t0 t1 u v at t₀ w t =
-    (t0 ≤ t) × (t ≤ t1) × Put w₀ w at (g .b) (λ l. getD w₀ (at + l) 0 ⊕ span (g .m) (blank u v (lane (g .m) (g .b) s l)) slant i t0 t)
+    (t0 ≤ t) × (t ≤ t1) × Put w₀ w at (g .b) (λ l. getD w₀ (at + l) 0 ⊕ span (g .m) (without u v (lane (g .m) (g .b) s l)) slant i t0 t)
 
 abbrev μ-loop : tie.MeasureT-loop
 μ-loop w₀ s g slant i t0 t1 u v at t₀ w t = t1 - t
@@ -30,7 +30,7 @@ loop-holds c =
       omega arith,
       z .pre .2 .order,
       put-kept (now (a .w)) (a .at) (a .g .b) _ (λ l h.
-          sym (ap (λ (x : ℕ). getD (now (a .w)) (a .at + l) 0 ⊕ x) (span-none (a .g .m) (blank (a .u) (a .v) (lane (a .g .m) (a .g .b) (now (a .s)) l)) (a .slant) (a .i) (a .t0)) ∙ ⊕-zero (getD (now (a .w)) (a .at + l) 0))),
+          sym (ap (λ (x : ℕ). getD (now (a .w)) (a .at + l) 0 ⊕ x) (span-none (a .g .m) (without (a .u) (a .v) (lane (a .g .m) (a .g .b) (now (a .s)) l)) (a .slant) (a .i) (a .t0)) ∙ ⊕-zero (getD (now (a .w)) (a .at + l) 0))),
     )
 
 group-but-requires : tie.Need-group-but-requires Inv-loop μ-loop
@@ -51,12 +51,12 @@ loop-again c =
     let y = c .before .before .before .before .before .before .loop in
     let e = c .before .before .before .before .group-but in
     let z = c .before .before .add-line in
-    let f : ℕ → ℕ → ℕ → ℕ = λ l x y. span (a .g .m) (blank (a .u) (a .v) (lane (a .g .m) (a .g .b) (now (a .s)) l)) (a .slant) (a .i) x y in (
+    let f : ℕ → ℕ → ℕ → ℕ = λ l x y. span (a .g .m) (without (a .u) (a .v) (lane (a .g .m) (a .g .b) (now (a .s)) l)) (a .slant) (a .i) x y in (
       omega (arith, e .ensures .0, y .inv .0),
       e .ensures .1,
       put-same (put-again (λ l. f l (y .t) (e .result)) (y .inv .2) (z .ensures)) (λ l h.
           ⊕-assoc (getD (now (a .w)) (a .at + l) 0) (f l (a .t0) (y .t)) (f l (y .t) (e .result))
-          ∙ ap (λ (x : ℕ). getD (now (a .w)) (a .at + l) 0 ⊕ x) (span-join (a .g .m) (blank (a .u) (a .v) (lane (a .g .m) (a .g .b) (now (a .s)) l)) (a .slant) (a .i) (a .t0) (y .t) (e .result))),
+          ∙ ap (λ (x : ℕ). getD (now (a .w)) (a .at + l) 0 ⊕ x) (span-join (a .g .m) (without (a .u) (a .v) (lane (a .g .m) (a .g .b) (now (a .s)) l)) (a .slant) (a .i) (a .t0) (y .t) (e .result))),
     )
 
 same-length : tie.Need-same-length Inv-loop μ-loop
@@ -67,7 +67,7 @@ returns c =
     let a = c .before .before .before .before .args in
     let y = c .before .loop in
     let e : y .t ≡ a .t1 = omega (arith, y .inv .1, c .loop-test .left) in
-    subst (λ (x : ℕ). Put (now (a .w)) (y .w) (a .at) (a .g .b) (λ l. getD (now (a .w)) (a .at + l) 0 ⊕ span (a .g .m) (blank (a .u) (a .v) (lane (a .g .m) (a .g .b) (now (a .s)) l)) (a .slant) (a .i) (a .t0) x)) e (y .inv .2)
+    subst (λ (x : ℕ). Put (now (a .w)) (y .w) (a .at) (a .g .b) (λ l. getD (now (a .w)) (a .at + l) 0 ⊕ span (a .g .m) (without (a .u) (a .v) (lane (a .g .m) (a .g .b) (now (a .s)) l)) (a .slant) (a .i) (a .t0) x)) e (y .inv .2)
 
 pub add-groups-spec : {M : Type 1} → statement M
 add-groups-spec =

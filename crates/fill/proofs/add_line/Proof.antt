@@ -6,7 +6,7 @@ use Rattle.parity.specs.Xor.{_⊕_}
 use Rattle.parity.specs.Stripe.{lane}
 use Rattle.cells.proofs.Puts.{put-same}
 use Rattle.lines.specs.Lines.{span}
-use Rattle.lines.specs.Places.{blank}
+use Rattle.lines.specs.Places.{without}
 use Rattle.lines.proofs.Seeds.{seed-kept}
 use borrow.Author.Needs.{needs}
 use Rattle.fill.proofs.add_line.Statement.{statement}
@@ -31,7 +31,7 @@ returns : tie.Need-returns
 returns c =
     let a = c .before .before .before .before .before .before .before .args in
     put-same (c .before .before .fill-group .ensures) (λ l h.
-    ap (λ (x : ℕ). x ⊕ span (a .g .m) (blank (a .u) (a .v) (lane (a .g .m) (a .g .b) (now (a .s)) l)) (a .slant) (a .i) (a .t0) (a .t1)) (seed-kept _ (now (a .w)) (a .at) l refl))
+    ap (λ (x : ℕ). x ⊕ span (a .g .m) (without (a .u) (a .v) (lane (a .g .m) (a .g .b) (now (a .s)) l)) (a .slant) (a .i) (a .t0) (a .t1)) (seed-kept _ (now (a .w)) (a .at) l refl))
 
 pub add-line-spec : {M : Type 1} → statement M
 add-line-spec =

@@ -6,7 +6,7 @@ use Rattle.parity.specs.Equations.{back}
 use Rattle.parity.specs.Stripe.{lane}
 use Rattle.lines.specs.Lines.{real}
 use Rattle.lines.proofs.Lines.{back-lt}
-use Rattle.lines.proofs.Places.{blank-real, blank-first, blank-second}
+use Rattle.lines.proofs.Places.{without-real, without-first, without-second}
 use Rattle.lines.proofs.Rows.{grown-none, grown-same}
 use Rattle.lines.proofs.Turned.{turned-line}
 use borrow.Author.Needs.{needs}
@@ -17,12 +17,12 @@ use Rattle.fill.proofs.add_other.Tie as tie
 returns : tie.Need-returns
 returns c =
     let a = c .before .before .before .args in
-    grown-none _ _ _ (now (a .w)) _ (λ r l. blank-first (a .g .m) (a .u) (a .v) (lane (a .g .m) (a .g .b) (now (a .s)) l) (back (a .g .m) ((r + a .shift) % a .g .m) (a .slant * a .t)) (a .t) (c .if1 .taken))
+    grown-none _ _ _ (now (a .w)) _ (λ r l. without-first (a .g .m) (a .u) (a .v) (lane (a .g .m) (a .g .b) (now (a .s)) l) (back (a .g .m) ((r + a .shift) % a .g .m) (a .slant * a .t)) (a .t) (c .if1 .taken))
 
 returns-2 : tie.Need-returns-2
 returns-2 c =
     let a = c .before .before .before .before .args in
-    grown-none _ _ _ (now (a .w)) _ (λ r l. blank-second (a .g .m) (a .u) (a .v) (lane (a .g .m) (a .g .b) (now (a .s)) l) (back (a .g .m) ((r + a .shift) % a .g .m) (a .slant * a .t)) (a .t) (c .if2 .taken))
+    grown-none _ _ _ (now (a .w)) _ (λ r l. without-second (a .g .m) (a .u) (a .v) (lane (a .g .m) (a .g .b) (now (a .s)) l) (back (a .g .m) ((r + a .shift) % a .g .m) (a .slant * a .t)) (a .t) (c .if2 .taken))
 
 mul-row-above : tie.Need-mul-row-above
 mul-row-above c = search needs
@@ -47,7 +47,7 @@ returns-3 c =
     grown-same _ _ _ (now (a .w)) (c .before .before .add-turned .last .0) _ _ (c .before .before .add-turned .ensures) (λ r l hr hl.
     ap (λ (x : ℕ). real (a .g .m) (lane (a .g .m) (a .g .b) (now (a .s)) l) (back (a .g .m) r x) (a .t)) (e .ensures)
     ∙ ap (λ (x : ℕ). real (a .g .m) (lane (a .g .m) (a .g .b) (now (a .s)) l) x (a .t)) (sym (turned-line (a .g .m) r (a .slant * a .t) (a .shift) (z .pre .3) (z .pre .4)))
-    ∙ sym (blank-real (a .g .m) (a .u) (a .v) (lane (a .g .m) (a .g .b) (now (a .s)) l) (back (a .g .m) ((r + a .shift) % a .g .m) (a .slant * a .t)) (a .t) (c .before .before .before .before .before .before .if1 .left) (c .before .before .before .before .before .if2 .left)))
+    ∙ sym (without-real (a .g .m) (a .u) (a .v) (lane (a .g .m) (a .g .b) (now (a .s)) l) (back (a .g .m) ((r + a .shift) % a .g .m) (a .slant * a .t)) (a .t) (c .before .before .before .before .before .before .if1 .left) (c .before .before .before .before .before .if2 .left)))
 
 pub add-other-spec : {M : Type 1} → statement M
 add-other-spec =

@@ -8,7 +8,7 @@ use Rattle.parity.specs.Stripe.{lane}
 use Rattle.parity.proofs.Xor.{⊕-assoc}
 use Rattle.cells.proofs.Puts.{put-same, put-again}
 use Rattle.lines.specs.Lines.{span}
-use Rattle.lines.specs.Places.{blank}
+use Rattle.lines.specs.Places.{without}
 use Rattle.lines.proofs.Lines.{span-join, crosses-columns}
 use Rattle.fill.specs.Fill.{seedOf}
 use Rattle.fill.proofs.Sweeps.{whole-span}
@@ -40,11 +40,11 @@ returns c =
     let z = c .before .before .before .before .before .before .before .before .before .before .before .before in
     let a = z .args in
     let e = c .before .before .before .before .before .before .before .before .group-but in
-    let f : ℕ → ℕ → ℕ → ℕ = λ l x y. span (a .g .m) (blank 129 129 (lane (a .g .m) (a .g .b) (now (a .s)) l)) (a .slant) (a .i) x y in
+    let f : ℕ → ℕ → ℕ → ℕ = λ l x y. span (a .g .m) (without 129 129 (lane (a .g .m) (a .g .b) (now (a .s)) l)) (a .slant) (a .i) x y in
     put-same (put-again (λ l. f l (e .result) (a .t1)) (c .before .before .before .before .before .before .fill-group .ensures) (c .before .before .add-groups .ensures)) (λ l h.
     ⊕-assoc (seedOf (a .fresh) (now (a .seed)) (now (a .w)) (a .at) l) (f l (a .t0) (e .result)) (f l (e .result) (a .t1))
     ∙ ap (λ (x : ℕ). seedOf (a .fresh) (now (a .seed)) (now (a .w)) (a .at) l ⊕ x)
-    (span-join (a .g .m) (blank 129 129 (lane (a .g .m) (a .g .b) (now (a .s)) l)) (a .slant) (a .i) (a .t0) (e .result) (a .t1)
+    (span-join (a .g .m) (without 129 129 (lane (a .g .m) (a .g .b) (now (a .s)) l)) (a .slant) (a .i) (a .t0) (e .result) (a .t1)
     ∙ whole-span (a .g .m) (a .g .b) (now (a .s)) l (a .slant) (a .i) (a .t0) (a .t1) (z .pre .3 .order) (z .pre .3 .most)))
 
 pub fill-cell-spec : {M : Type 1} → statement M

@@ -8,7 +8,7 @@ use Rattle.parity.specs.Stripe.{lane}
 use Rattle.parity.proofs.Xor.{zero-⊕}
 use Rattle.cells.proofs.Puts.{put-same}
 use Rattle.lines.specs.Lines.{real, span, ended}
-use Rattle.lines.specs.Places.{blank}
+use Rattle.lines.specs.Places.{without}
 use Rattle.lines.proofs.Lines.{crosses-own}
 use Rattle.lines.proofs.Places.{total-none, total-part, within-part}
 use Rattle.lines.proofs.Seeds.{seed-fresh}
@@ -69,7 +69,7 @@ returns c =
     put-same (c .before .before .fill-places .ensures) (λ l h.
     ap₂ _⊕_ (seed-fresh (now (a .seed)) (now (a .w)) (a .to) l refl)
     (total-part (y .last .0) (y .result) e s l ∙ y .ensures .sums s l
-    ∙ ap (λ (p : ℕ). p ⊕ span (a .g .m) (blank (a .u) (a .v) (lane (a .g .m) (a .g .b) s l)) (a .slant) (a .i) 0 (a .n)) (x .sums s l ∙ ap (λ (p : ℕ). p ⊕ real (a .g .m) (blank (a .u) (a .v) (lane (a .g .m) (a .g .b) s l)) (a .i) (a .h)) (total-none _ s l) ∙ zero-⊕ _)))
+    ∙ ap (λ (p : ℕ). p ⊕ span (a .g .m) (without (a .u) (a .v) (lane (a .g .m) (a .g .b) s l)) (a .slant) (a .i) 0 (a .n)) (x .sums s l ∙ ap (λ (p : ℕ). p ⊕ real (a .g .m) (without (a .u) (a .v) (lane (a .g .m) (a .g .b) s l)) (a .i) (a .h)) (total-none _ s l) ∙ zero-⊕ _)))
 
 pub fill-ended-spec : {M : Type 1} → statement M
 fill-ended-spec =

@@ -8,7 +8,7 @@ use Rattle.parity.specs.Stripe.{lane}
 use Rattle.parity.proofs.Xor.{zero-⊕}
 use Rattle.cells.proofs.Puts.{put-same}
 use Rattle.lines.specs.Lines.{span}
-use Rattle.lines.specs.Places.{blank}
+use Rattle.lines.specs.Places.{without}
 use Rattle.lines.proofs.Lines.{crosses-own}
 use Rattle.lines.proofs.Places.{total-none, total-part, within-part}
 use Rattle.fill.specs.Fill.{seedOf}
@@ -56,7 +56,7 @@ returns c =
     put-same (c .before .before .fill-places .ensures) (λ l h.
     ap (λ (x : ℕ). seedOf (a .fresh) (now (a .seed)) (now (a .w)) (a .to) l ⊕ x)
     (total-part (p .last .0) (p .result) e (now (a .s)) l ∙ p .ensures .sums (now (a .s)) l
-    ∙ ap (λ (x : ℕ). x ⊕ span (a .g .m) (blank (a .u) (a .v) (lane (a .g .m) (a .g .b) (now (a .s)) l)) (a .slant) (a .i) (a .t0) (a .t1)) (total-none _ (now (a .s)) l) ∙ zero-⊕ _))
+    ∙ ap (λ (x : ℕ). x ⊕ span (a .g .m) (without (a .u) (a .v) (lane (a .g .m) (a .g .b) (now (a .s)) l)) (a .slant) (a .i) (a .t0) (a .t1)) (total-none _ (now (a .s)) l) ∙ zero-⊕ _))
 
 pub fill-group-spec : {M : Type 1} → statement M
 fill-group-spec =

@@ -15,8 +15,8 @@ use Rattle.lines.proofs.add_place.Statement.{statement}
 use Rattle.lines.proofs.add_place.Tie as tie
 
 -- a column begins within the numbers that fit
-starts : {m b c : ℕ} (t : ℕ) → t < 129 → Sized m b c → t * c ≤ 66060288
-starts {m} {b} {c} t h z = mul-le-mul {n₂ = 128} {m₂ = 516096} (omega arith) (column-most m b c z)
+starts : {m b c : ℕ} (t : ℕ) → t < 256 → Sized m b c → t * c ≤ 131604480
+starts {m} {b} {c} t h z = mul-le-mul {n₂ = 255} {m₂ = 516096} (omega arith) (column-most m b c z)
 
 -- the byte at the place
 read-at : (m b c r t : ℕ) → Sized m b c → r < m - 1 → (s : List ℕ) (l : ℕ) → getD s (t * c + r * b + l) 0 ≡ real m (lane m b s l) r t

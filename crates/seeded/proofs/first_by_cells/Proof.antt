@@ -9,7 +9,7 @@ use Rattle.parity.specs.Stripe.{lane}
 use Rattle.cells.proofs.Parts.{parts-end}
 use Rattle.cells.proofs.Puts.{put-same}
 use Rattle.lines.specs.Lines.{ended}
-use Rattle.lines.specs.Places.{blank}
+use Rattle.lines.specs.Places.{without}
 use Rattle.lines.specs.Rows.{Lined}
 use Rattle.lines.proofs.Lines.{crosses-line}
 use Rattle.lines.proofs.Rows.{lined-none, lined-more, lined-count}
@@ -21,7 +21,7 @@ use Rattle.seeded.proofs.first_by_cells.Tie as tie
 
 abbrev Inv-loop : tie.InvT-loop
 Inv-loop w₀ at seed s g slant shift rows h n u v m b i₀ r₀ w i r =
-    (r ≤ rows) × (i ≡ (r + shift) % g .m) × Lined r (g .b) at w₀ w (λ r l. getD seed l 0 ⊕ ended (g .m) (blank u v (lane (g .m) (g .b) s l)) slant ((r + shift) % g .m) h n)
+    (r ≤ rows) × (i ≡ (r + shift) % g .m) × Lined r (g .b) at w₀ w (λ r l. getD seed l 0 ⊕ ended (g .m) (without u v (lane (g .m) (g .b) s l)) slant ((r + shift) % g .m) h n)
 
 abbrev μ-loop : tie.MeasureT-loop
 μ-loop w₀ at seed s g slant shift rows h n u v m b i₀ r₀ w i r = rows - r
@@ -75,8 +75,8 @@ loop-again c =
     let z = c .before .before .before .fill-ended in (
       omega arith,
       c .row-below .ensures ∙ ap (λ (x : ℕ). (x + 1) % a .g .m) (y .inv .1) ∙ line-next (a .g .m) (y .r) (a .shift),
-      lined-more (y .r) (a .g .b) (a .at) (now (a .w)) (y .w) (z .last .0) (λ r l. getD (now (a .seed)) l 0 ⊕ ended (a .g .m) (blank (a .u) (a .v) (lane (a .g .m) (a .g .b) (now (a .s)) l)) (a .slant) ((r + a .shift) % a .g .m) (a .h) (a .n)) (y .inv .2) (put-same (z .ensures) (λ l k.
-          ap (λ (x : ℕ). getD (now (a .seed)) l 0 ⊕ ended (a .g .m) (blank (a .u) (a .v) (lane (a .g .m) (a .g .b) (now (a .s)) l)) (a .slant) x (a .h) (a .n)) (y .inv .1))),
+      lined-more (y .r) (a .g .b) (a .at) (now (a .w)) (y .w) (z .last .0) (λ r l. getD (now (a .seed)) l 0 ⊕ ended (a .g .m) (without (a .u) (a .v) (lane (a .g .m) (a .g .b) (now (a .s)) l)) (a .slant) ((r + a .shift) % a .g .m) (a .h) (a .n)) (y .inv .2) (put-same (z .ensures) (λ l k.
+          ap (λ (x : ℕ). getD (now (a .seed)) l 0 ⊕ ended (a .g .m) (without (a .u) (a .v) (lane (a .g .m) (a .g .b) (now (a .s)) l)) (a .slant) x (a .h) (a .n)) (y .inv .1))),
     )
 
 same-length : tie.Need-same-length Inv-loop μ-loop

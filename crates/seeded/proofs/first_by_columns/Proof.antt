@@ -9,7 +9,7 @@ use Rattle.parity.specs.Equations.{Lane}
 use Rattle.parity.specs.Stripe.{lane}
 use Rattle.parity.proofs.Xor.{⊕-assoc}
 use Rattle.lines.specs.Lines.{span, ended, Crosses}
-use Rattle.lines.specs.Places.{blank}
+use Rattle.lines.specs.Places.{without}
 use Rattle.lines.proofs.Amounts.{cell-span}
 use Rattle.lines.proofs.Rows.{lined-same, lined-grown}
 use Rattle.fill.proofs.Sweeps.{lineBut}
@@ -58,7 +58,7 @@ returns c =
     lined-same
     (lined-grown (a .rows) b (a .at) (f (a .slant) 0 (a .n)) (lined-grown (a .rows) b (a .at) (f 0 (a .h) (a .h + 1)) (c .before .before .before .before .before .before .before .before .before .before .seed-rows .ensures) (c .before .before .before .before .before .before .fill-but .ensures)) (c .before .before .fill-but2 .ensures))
     (λ r l hr hl.
-    let n : Lane = blank (a .u) (a .v) (lane m b (now (a .s)) l) in
+    let n : Lane = without (a .u) (a .v) (lane m b (now (a .s)) l) in
     let i : ℕ = (r + a .shift) % m in
     ⊕-assoc (getD (now (a .seed)) l 0) (span m n 0 i (a .h) (a .h + 1)) (span m n (a .slant) i 0 (a .n))
     ∙ ap (λ (x : ℕ). getD (now (a .seed)) l 0 ⊕ (x ⊕ span m n (a .slant) i 0 (a .n))) (cell-span m n i (a .h) (mod-lt (r + a .shift) (omega (arith, z .pre .6 .big)))))

@@ -8,7 +8,7 @@ use Rattle.parity.specs.Equations.{Lane}
 use Rattle.parity.specs.Stripe.{lane}
 use Rattle.parity.proofs.Xor.{⊕-assoc}
 use Rattle.lines.specs.Lines.{span, ended}
-use Rattle.lines.specs.Places.{blank}
+use Rattle.lines.specs.Places.{without}
 use Rattle.lines.proofs.Lines.{crosses-columns}
 use Rattle.lines.proofs.Ended.{ended-join}
 use Rattle.lines.proofs.Rows.{lined-same, lined-grown}
@@ -47,7 +47,7 @@ returns c =
     lined-same
     (lined-grown (a .rows) b (a .at) (lineBut m b (a .u) (a .v) (now (a .s)) (a .slant) (a .shift) e (a .n)) (c .before .before .before .before .before .before .first-by-cells .ensures) (c .before .before .fill-but .ensures))
     (λ r l hr hl.
-    let n : Lane = blank (a .u) (a .v) (lane m b (now (a .s)) l) in
+    let n : Lane = without (a .u) (a .v) (lane m b (now (a .s)) l) in
     let i : ℕ = (r + a .shift) % m in
     ⊕-assoc (getD (now (a .seed)) l 0) (ended m n (a .slant) i (a .h) e) (span m n (a .slant) i e (a .n))
     ∙ ap (λ (x : ℕ). getD (now (a .seed)) l 0 ⊕ x) (ended-join m n (a .slant) i (a .h) e (a .n)))
