@@ -4,12 +4,13 @@
 --   total-none, total-more                 no place, and one more
 --   total-part, within-part                the first n places, lent as a part of `at`
 --   window-start, window-first, window-next              a line over the first columns has its end, over others it has not
+--   window-join                            over the first columns, and then over the next
 --   follows-crosses                        a line that can be followed
 --   without-other, first-without, second-without   a column that is not left out, and those that are
 --   without-real, without-first, without-second    the same of a cell that may be imaginary
 --   without-span                             a line over columns none of which is left out
 --   without-one                              a line over the columns from 0 on but one
-use mathlib.Core.Path.{_≡_, refl, sym, ap, _∙_, subst}
+use mathlib.Core.Path.{_≡_, refl, sym, ap, ap₂, _∙_, subst}
 use mathlib.Core.Bool.{Bool, true, false, cond}
 use mathlib.Core.Logic.{_≢_}
 use mathlib.Core.List.{List}
@@ -124,6 +125,13 @@ module _ (m k : ℕ) (a : Lane) (e i : ℕ) where
   pub window-next : (x y : ℕ) → x ≢ 0 → window m k a e i x y ≡ span m a e i x y
   unfolding window
   window-next x y h = ap (λ (c : Bool). cond c (real m a i (k + e)) 0 ⊕ span m a e i x y) (ne-eqb x 0 h) ∙ zero-⊕ (span m a e i x y)
+
+  pub window-join : (x y : ℕ) → x ≢ 0 → window m k a e i 0 x ⊕ window m k a e i x y ≡ window m k a e i 0 y
+  window-join x y h =
+      ap₂ _⊕_ (window-start x) (window-next x y h)
+      ∙ ⊕-assoc (real m a i (k + e)) (span m a e i 0 x) (span m a e i x y)
+      ∙ ap (λ (z : ℕ). real m a i (k + e) ⊕ z) (span-join m a e i 0 x y)
+      ∙ sym (window-start y)
 
 pub follows-crosses : {g : Grid} {e i : ℕ} {columns : Columns} → Follows g e i columns → Crosses (g .m) (g .column) (columns .to * g .column) e i (columns .from) (columns .to)
 follows-crosses {g} {e} {i} {columns} z =

@@ -28,6 +28,30 @@ pub struct Columns {
     pub v: usize,
 }
 
+// All data columns but u and v.
+pub fn all_but(g: Grid, u: usize, v: usize) -> Columns
+    ensures { λ r. ⌜ r ≡ record { from = 0; to = g .k; u = u; v = v } ⌝ }
+{
+    Columns {
+        from: 0,
+        to: g.k,
+        u,
+        v,
+    }
+}
+
+// The columns from `from` up to `to`, but those that `columns` leaves out.
+pub fn part_of(columns: Columns, from: usize, to: usize) -> Columns
+    ensures { λ r. ⌜ r ≡ record { from = from; to = to; u = columns .u; v = columns .v } ⌝ }
+{
+    Columns {
+        from,
+        to,
+        u: columns.u,
+        v: columns.v,
+    }
+}
+
 // The row that is `up` rows above row r, modulo m.
 pub fn row_above(m: usize, r: usize, up: usize) -> usize
     requires { ⌜ (r < m) × (up ≤ m) × (m ≤ 127) ⌝ }

@@ -1,4 +1,0 @@
-pub mod Whole
-pub mod Rows
-pub mod Seeds
-pub mod Sweeps
