@@ -149,7 +149,7 @@ module _ (g : Grid) (s : List ℕ) (e u v : ℕ) where
   over x y = record { from = x; to = y; u = u; v = v }
 
   -- the next columns after those below t
-  onward : {w : ℕ} (o i t n l x : ℕ) → t ≢ 0 → w ≡ o ⊕ windowOf g s e i (over 0 t) l → x ≡ w ⊕ windowOf g s e i (over t n) l → x ≡ o ⊕ windowOf g s e i (over 0 n) l
+  pub onward : {w : ℕ} (o i t n l x : ℕ) → t ≢ 0 → w ≡ o ⊕ windowOf g s e i (over 0 t) l → x ≡ w ⊕ windowOf g s e i (over t n) l → x ≡ o ⊕ windowOf g s e i (over 0 n) l
   onward o i t n l x ne p q =
       q ∙ ap (λ (y : ℕ). y ⊕ windowOf g s e i (over t n) l) p ∙ ⊕-assoc o (windowOf g s e i (over 0 t) l) (windowOf g s e i (over t n) l)
       ∙ ap (λ (y : ℕ). o ⊕ y) (window-join (g .m) (g .k) (laneOf g s (over 0 t) l) e i t n ne)

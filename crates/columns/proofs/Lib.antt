@@ -1,4 +1,0 @@
-pub mod Rooms
-pub mod Bench
-pub mod Lanes
-pub mod Steps

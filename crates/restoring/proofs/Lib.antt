@@ -1,0 +1,4 @@
+pub mod Lanes
+pub mod Bench
+pub mod Totals
+pub mod Steps

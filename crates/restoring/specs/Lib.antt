@@ -1,0 +1,3 @@
+-- What the contracts of this crate cite.
+pub mod Restoring
+pub mod Left

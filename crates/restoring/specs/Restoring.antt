@@ -1,0 +1,35 @@
+-- What stands in the bench, a buffer of two columns, when one or two absent columns of a stripe s were restored to it. Nothing is said of
+-- how: if a valid stripe agrees with s in the columns that are present, the halves of the bench hold that stripe's absent columns.
+--   Bench g s n                a stripe of that grid, and a bench of n bytes
+--   SameBut m k b u s r        r has what s has in every column but u
+--   SameButTwo m k b u u′ s r  the same of every column but u and u′
+--   OneRestored …              w became v: its first half is column u, its second half is as it was
+--   TwoRestored …              w became v: its halves are columns u and u′
+use mathlib.Core.Path.{_≡_}
+use mathlib.Core.Logic.{_≢_}
+use mathlib.Core.List.{List}
+use Prim.Native.Nat.{ℕ, _+_, _-_, _*_, _<_}
+use lib.ListN.{length}
+use Rattle.parity.specs.Stripe.{byte, Valid}
+use Rattle.lines.specs.declared.Grid.{Grid}
+use Rattle.lines.specs.Lines.{Laid}
+
+pub record Bench (g : Grid) (s : List ℕ) (n : ℕ) : Type 0 where
+  pub laid : Laid g s
+  pub bench : n ≡ 2 * g .column
+
+abbrev pub SameBut : ℕ → ℕ → ℕ → ℕ → List ℕ → List ℕ → Type 0
+SameBut m k b u s r = (l i t : ℕ) → l < b → i < m - 1 → t < k + 2 → t ≢ u → byte m b s l i t ≡ byte m b r l i t
+
+abbrev pub SameButTwo : ℕ → ℕ → ℕ → ℕ → ℕ → List ℕ → List ℕ → Type 0
+SameButTwo m k b u u′ s r = (l i t : ℕ) → l < b → i < m - 1 → t < k + 2 → t ≢ u → t ≢ u′ → byte m b s l i t ≡ byte m b r l i t
+
+pub record OneRestored (m k b u : ℕ) (s w v : List ℕ) : Type 0 where
+  pub size : length v ≡ length w
+  pub first : (r : List ℕ) → Valid m k b r → SameBut m k b u s r → (l i : ℕ) → l < b → i < m - 1 → byte m b v l i 0 ≡ byte m b r l i u
+  pub second : (l i : ℕ) → l < b → i < m - 1 → byte m b v l i 1 ≡ byte m b w l i 1
+
+pub record TwoRestored (m k b u u′ : ℕ) (s w v : List ℕ) : Type 0 where
+  pub size : length v ≡ length w
+  pub both : (r : List ℕ) → Valid m k b r → SameButTwo m k b u u′ s r
+      → (l i : ℕ) → l < b → i < m - 1 → (byte m b v l i 0 ≡ byte m b r l i u) × (byte m b v l i 1 ≡ byte m b r l i u′)
