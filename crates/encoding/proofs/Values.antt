@@ -7,6 +7,7 @@
 --   ready                       when a cell past the data columns is ready for a sum, which begins at `first` where it is fresh, else with the cell itself
 --   group-follows, line-places  a line can be followed through a group; the cells at the places that are found add up to it
 use mathlib.Core.Path.{_≡_, refl, sym, ap, ap₂, _∙_, subst}
+use mathlib.Core.Logic.{_≢_}
 use mathlib.Core.Bool.{Bool, true, false, cond}
 use mathlib.Core.List.{List}
 use Prim.Native.Nat.{ℕ, _+_, _-_, _*_, _≤_, _<_}
@@ -18,7 +19,6 @@ use Rattle.parity.proofs.Xor.{zero-⊕}
 use Rattle.parity.proofs.Sum.{sum-cong}
 use Rattle.cells.specs.Runs.{Put}
 use Rattle.cells.proofs.Parts.{part, by-order}
-use Rattle.lines.specs.declared.Columns.{Columns}
 use Rattle.lines.specs.declared.Grid.{Grid}
 use Rattle.lines.specs.Lines.{span, Laid}
 use Rattle.lines.specs.Places.{without, total, Listed, Follows}
@@ -51,20 +51,20 @@ summed-next {s} {t} {u} {at} {seed = seed} {to} {x} {y} {z} r h₁ h₂ h₃ p q
     kept : (l : ℕ) → l < z → total at (length at) t l ≡ total at (length at) s l
     kept l h = sum-cong (length at) (λ v hv. p .before (getD at v 0 + l) (omega (arith, r .within v hv)))
 
-pub group-follows : {g : Grid} {columns : Columns} {s : List ℕ} {e i : ℕ} → Group g columns s → e ≤ 1 → i < g .m → Follows g e i columns
+pub group-follows : {g : Grid} {x y : ℕ} {s : List ℕ} {e i : ℕ} → Group g x y s → e ≤ 1 → i < g .m → Follows g e i (record { from = x; to = y; u = 129; v = 129 })
 group-follows p slant inside = record { sized = p .laid .sized; few = p .laid .few; slant = slant; inside = inside; order = p .order; most = p .most }
 
-pub line-places : {g : Grid} {columns : Columns} {w : List ℕ} (e i : ℕ) {z n more : ℕ} {at v : List ℕ} → Group g columns w
-    → Listed (g .b) z 0 n more at v (λ s l. span (g .m) (without (columns .u) (columns .v) (lane (g .m) (g .b) s l)) e i (columns .from) (columns .to))
-    → n ≤ length v → (s : List ℕ) (l : ℕ) → total (part v 0 n) (length (part v 0 n)) s l ≡ span (g .m) (lane (g .m) (g .b) s l) e i (columns .from) (columns .to)
-line-places {g} {columns} e i {n = n} {at = at} {v} p q room s l =
+pub line-places : {g : Grid} {x y : ℕ} {w : List ℕ} (e i : ℕ) {z n more : ℕ} {at v : List ℕ} → Group g x y w
+    → Listed (g .b) z 0 n more at v (λ s l. span (g .m) (without 129 129 (lane (g .m) (g .b) s l)) e i x y)
+    → n ≤ length v → (s : List ℕ) (l : ℕ) → total (part v 0 n) (length (part v 0 n)) s l ≡ span (g .m) (lane (g .m) (g .b) s l) e i x y
+line-places {g} {x} {y} e i {n = n} {at = at} {v} p q room s l =
     total-part v n room s l ∙ q .sums s l
-    ∙ ap (λ (z : ℕ). z ⊕ over) (total-none at s l) ∙ zero-⊕ over
-    ∙ without-span (g .m) (columns .u) (columns .v) (lane (g .m) (g .b) s l) e i (columns .from) (columns .to) (p .order) (λ t h₁ h₂.
-    (λ x. absurd (omega (arith, p .most, p .first)), λ x. absurd (omega (arith, p .most, p .second))))
+    ∙ ap (λ (z : ℕ). z ⊕ span (g .m) (without 129 129 (lane (g .m) (g .b) s l)) e i x y) (total-none at s l)
+    ∙ zero-⊕ (span (g .m) (without 129 129 (lane (g .m) (g .b) s l)) e i x y)
+    ∙ without-span (g .m) 129 129 (lane (g .m) (g .b) s l) e i x y (p .order) (λ t h₁ h₂. (none t h₂, none t h₂))
   where
-    over : ℕ
-    over = span (g .m) (without (columns .u) (columns .v) (lane (g .m) (g .b) s l)) e i (columns .from) (columns .to)
+    none : (t : ℕ) → t < y → t ≢ 129
+    none t h q = absurd (omega (arith, p .most, p .laid .few, p .laid .sized .few))
 
 pub put-summed : {s t at : List ℕ} {seed to j n : ℕ} → Put s t (to + j) n (λ l. getD s (seed + j + l) 0 ⊕ total at (length at) s (j + l)) → Summed s t at seed to j (j + n)
 put-summed {s} {t} {at} {seed} {to} {j} p = record {
@@ -93,11 +93,11 @@ cell-summed {s} {seed = seed} p so = record {
 pub laid-kept : {g : Grid} {s t : List ℕ} → length t ≡ length s → Laid g s → Laid g t
 laid-kept e p = record { sized = p .sized; some = p .some; few = p .few; whole = e ∙ p .whole }
 
-pub group-kept : {g : Grid} {columns : Columns} {s t : List ℕ} → length t ≡ length s → Group g columns s → Group g columns t
-group-kept e p = record { laid = laid-kept e (p .laid); order = p .order; most = p .most; few = p .few; first = p .first; second = p .second }
+pub group-kept : {g : Grid} {x y : ℕ} {s t : List ℕ} → length t ≡ length s → Group g x y s → Group g x y t
+group-kept e p = record { laid = laid-kept e (p .laid); order = p .order; most = p .most; few = p .few }
 
-pub ready : (fresh : Bool) {g : Grid} {columns : Columns} {s : List ℕ} {e i first seed to : ℕ} → Group g columns s → e ≤ 1 → i < g .m → g .k * g .column ≤ to
-    → Room (length s) (g .b) first to → first ≤ length s → seed ≡ cond fresh first to → Ready g columns s e i seed to
+pub ready : (fresh : Bool) {g : Grid} {x y : ℕ} {s : List ℕ} {e i first seed to : ℕ} → Group g x y s → e ≤ 1 → i < g .m → g .k * g .column ≤ to
+    → Room (length s) (g .b) first to → first ≤ length s → seed ≡ cond fresh first to → Ready g x y s e i seed to
 ready true {g} {s = s} {to = to} group slant inside past room near e =
     record { group = group; slant = slant; inside = inside; past = past; room = subst (λ (v : ℕ). Room (length s) (g .b) v to) (sym e) room; near = omega arith }
 ready false group slant inside past room near e = record {

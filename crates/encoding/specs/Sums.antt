@@ -3,7 +3,7 @@
 --                               not before it: so nothing is written before it is read
 --   Summed s t at seed to x y   t is s, but that the lanes from x up to y of the cell at `to` are those of the cells at the places of `at` and of
 --                               the cell at `seed`, summed
---   Group g columns s           at most eight data columns of the stripe s, none of them left out
+--   Group g x y s               the columns from x up to y, at most eight data columns of the stripe s
 --   Ready …                     all that must be so where the cell at `to` is to become a seed plus line i of slant e over such a group
 --   Grown fresh g x y s t i j   t is s, but that in the rows from i up to j the lines over the columns from x up to y are added to what their ends
 --                               held, the cells of H for rows (e = 0) and of D for diagonals (e = 1); where the sums are fresh, to row m - 1 of H,
@@ -16,7 +16,6 @@ use lib.ListN.{length, getD}
 use Rattle.parity.specs.Xor.{_⊕_}
 use Rattle.parity.specs.Shape.{columnLength}
 use Rattle.parity.specs.Stripe.{lane}
-use Rattle.lines.specs.declared.Columns.{Columns}
 use Rattle.lines.specs.declared.Grid.{Grid}
 use Rattle.lines.specs.Lines.{real, span, Laid}
 use Rattle.lines.specs.Places.{total, Within}
@@ -33,16 +32,14 @@ pub record Summed (s t at : List ℕ) (seed to x y : ℕ) : Type 0 where
   pub before : (p : ℕ) → p < to + x → getD t p 0 ≡ getD s p 0
   pub after : (p : ℕ) → to + y ≤ p → getD t p 0 ≡ getD s p 0
 
-pub record Group (g : Grid) (columns : Columns) (s : List ℕ) : Type 0 where
+pub record Group (g : Grid) (x y : ℕ) (s : List ℕ) : Type 0 where
   pub laid : Laid g s
-  pub order : columns .from ≤ columns .to
-  pub most : columns .to ≤ g .k
-  pub few : columns .to ≤ columns .from + 8
-  pub first : g .k ≤ columns .u
-  pub second : g .k ≤ columns .v
+  pub order : x ≤ y
+  pub most : y ≤ g .k
+  pub few : y ≤ x + 8
 
-pub record Ready (g : Grid) (columns : Columns) (s : List ℕ) (e i seed to : ℕ) : Type 0 where
-  pub group : Group g columns s
+pub record Ready (g : Grid) (x y : ℕ) (s : List ℕ) (e i seed to : ℕ) : Type 0 where
+  pub group : Group g x y s
   pub slant : e ≤ 1
   pub inside : i < g .m
   pub past : g .k * g .column ≤ to

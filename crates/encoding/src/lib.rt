@@ -83,12 +83,28 @@ fn put_all(s: &mut [u8], seed: usize, b: usize, at: &[usize], to: usize)
     put_rest(s, seed, b, at, to, j);
 }
 
-// The cell at `to` becomes the seed plus line i over those columns.
-fn put_cell(s: &mut [u8], seed: usize, g: Grid, slant: usize, i: usize, columns: Columns, to: usize)
-    requires { ⌜ Ready g columns (now s) slant i seed to ⌝ }
-    ensures { λ _. ⌜ Put (now (s .entry)) (now (s .exit)) to (g .b) (λ l. getD (now (s .entry)) (seed + l) 0 ⊕ span (g .m) (lane (g .m) (g .b) (now (s .entry)) l) slant i (columns .from) (columns .to)) ⌝ }
+// The cell at `to` becomes the seed plus line i over the columns from t0 up to t1. Column 129, which no stripe has, is left out; as constants here
+// the two numbers save the compiler a test for each cell that is summed.
+fn put_cell(
+    s: &mut [u8],
+    seed: usize,
+    g: Grid,
+    slant: usize,
+    i: usize,
+    t0: usize,
+    t1: usize,
+    to: usize,
+)
+    requires { ⌜ Ready g t0 t1 (now s) slant i seed to ⌝ }
+    ensures { λ _. ⌜ Put (now (s .entry)) (now (s .exit)) to (g .b) (λ l. getD (now (s .entry)) (seed + l) 0 ⊕ span (g .m) (lane (g .m) (g .b) (now (s .entry)) l) slant i t0 t1) ⌝ }
 {
     let b = g.b;
+    let columns = Columns {
+        from: t0,
+        to: t1,
+        u: 129,
+        v: 129,
+    };
     let mut at = [0usize; 8];
     let n = lines::add_places(&mut at, 0, g, slant, i, columns);
     put_all(s, seed, b, &at[0..n], to);
@@ -114,39 +130,32 @@ fn last_place(g: Grid) -> usize
     (g.k + 1) * c + (g.m - 2) * b
 }
 
-// Row i of H gets those columns of its row added, row i of D those of its diagonal. In the first group H begins with zero and D with its last cell.
-fn put_row(s: &mut [u8], g: Grid, columns: Columns, i: usize)
-    requires { ⌜ Group g columns (now s) × (i < g .m - 1) ⌝ }
-    ensures { λ _. ⌜ Grown (eqb (columns .from) 0) g (columns .from) (columns .to) (now (s .entry)) (now (s .exit)) i (i + 1) ⌝ }
+// Row i of H gets the columns from t0 up to t1 of its row added, row i of D those of its diagonal. In the first group H begins with zero and D with
+// its last cell.
+fn put_row(s: &mut [u8], g: Grid, t0: usize, t1: usize, i: usize)
+    requires { ⌜ Group g t0 t1 (now s) × (i < g .m - 1) ⌝ }
+    ensures { λ _. ⌜ Grown (eqb t0 0) g t0 t1 (now (s .entry)) (now (s .exit)) i (i + 1) ⌝ }
 {
     let c = g.column;
     let b = g.b;
     let n = s.len();
     let h = g.k * c + i * b;
     let d = h + c;
-    put_cell(s, seed_place(columns.from == 0, n, h), g, 0, i, columns, h);
-    put_cell(
-        s,
-        seed_place(columns.from == 0, last_place(g), d),
-        g,
-        1,
-        i,
-        columns,
-        d,
-    );
+    put_cell(s, seed_place(t0 == 0, n, h), g, 0, i, t0, t1, h);
+    put_cell(s, seed_place(t0 == 0, last_place(g), d), g, 1, i, t0, t1, d);
 }
 
-// Every row of H and D gets those columns added.
-fn put_rows(s: &mut [u8], g: Grid, columns: Columns)
-    requires { ⌜ Group g columns (now s) ⌝ }
-    ensures { λ _. ⌜ Grown (eqb (columns .from) 0) g (columns .from) (columns .to) (now (s .entry)) (now (s .exit)) 0 (g .m - 1) ⌝ }
+// Every row of H and D gets these columns added.
+fn put_rows(s: &mut [u8], g: Grid, t0: usize, t1: usize)
+    requires { ⌜ Group g t0 t1 (now s) ⌝ }
+    ensures { λ _. ⌜ Grown (eqb t0 0) g t0 t1 (now (s .entry)) (now (s .exit)) 0 (g .m - 1) ⌝ }
 {
     for i in 0..g.m - 1 {
-        put_row(s, g, columns, i);
+        put_row(s, g, t0, t1, i);
     }
 }
 
-// H becomes the sums of the rows, D its last cell plus those of the diagonals, eight columns at a time. Column 129, which no stripe has, is left out.
+// H becomes the sums of the rows, D its last cell plus those of the diagonals, eight columns at a time.
 fn put_groups(s: &mut [u8], g: Grid)
     requires { ⌜ Laid g (now s) ⌝ }
     ensures { λ _. ⌜ Grown true g 0 (g .k) (now (s .entry)) (now (s .exit)) 0 (g .m - 1) ⌝ }
@@ -154,16 +163,7 @@ fn put_groups(s: &mut [u8], g: Grid)
     let mut t: usize = 0;
     while t < g.k {
         let e = lines::group_end(t, g.k);
-        put_rows(
-            s,
-            g,
-            Columns {
-                from: t,
-                to: e,
-                u: 129,
-                v: 129,
-            },
-        );
+        put_rows(s, g, t, e);
         t = e;
     }
 }
@@ -178,13 +178,7 @@ fn put_sum(s: &mut [u8], g: Grid)
     let mut t: usize = 0;
     while t < g.k {
         let e = lines::group_end(t, g.k);
-        let columns = Columns {
-            from: t,
-            to: e,
-            u: 129,
-            v: 129,
-        };
-        put_cell(s, seed_place(t == 0, n, last), g, 1, g.m - 1, columns, last);
+        put_cell(s, seed_place(t == 0, n, last), g, 1, g.m - 1, t, e, last);
         t = e;
     }
 }

@@ -31,7 +31,7 @@ put-all-requires c κs =
     let z = c .before .before .before .before .before .before .before in
     let a = z .args in
     let y = c .before .before .before .before .add-places in
-    let p : a .columns .to * a .g .column ≤ a .g .k * a .g .column = mul-le-mul-right (a .g .column) (z .pre .group .most) in
+    let p : a .t1 * a .g .column ≤ a .g .k * a .g .column = mul-le-mul-right (a .g .column) (z .pre .group .most) in
     record {
       within = within-part (y .last .0) (y .result) (omega arith) (a .g .b) (a .to) (y .ensures .within (a .to) (omega (arith, z .pre .past)) (λ x h. absurd (omega arith)));
       room = z .pre .room;

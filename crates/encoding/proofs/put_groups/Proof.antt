@@ -29,7 +29,7 @@ put-rows-requires : tie.Need-put-rows-requires Inv-loop μ-loop
 put-rows-requires c κs =
     let p = c .before .before .before .before .before .before .pre in
     let e = c .before .group-end .ensures in
-    record { laid = laid-kept (c .before .before .before .before .loop .inv .1) p; order = omega arith; most = e .1; few = e .2; first = omega (arith, p .few, p .sized .few); second = omega (arith, p .few, p .sized .few) }
+    record { laid = laid-kept (c .before .before .before .before .loop .inv .1) p; order = omega arith; most = e .1; few = e .2 }
 
 loop-less : tie.Need-loop-less Inv-loop μ-loop
 loop-less c = omega arith

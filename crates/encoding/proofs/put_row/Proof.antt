@@ -36,15 +36,15 @@ seed-place-requires c κs = search needs
 
 put-cell-requires : tie.Need-put-cell-requires
 put-cell-requires c κs =
-    let a = c .before .before .before .before .before .args in
-    let p = c .before .before .before .before .before .pre in
+    let a = c .before .before .before .before .args in
+    let p = c .before .before .before .before .pre in
     let inside = cell-end (a .g .m) (a .g .b) (a .i) (p .1) in
-    ready (eqb (a .columns .from) 0) (p .0) (omega arith) (omega (arith, p .1)) (omega arith)
+    ready (eqb (a .t0) 0) (p .0) (omega arith) (omega (arith, p .1)) (omega arith)
     (record { inside = omega (arith, inside, p .0 .laid); later = omega (arith, inside, p .0 .laid); whole = λ h. omega arith }) (omega arith) (c .seed-place .ensures)
 
 last-place-requires : tie.Need-last-place-requires
 last-place-requires c κs =
-    let p = c .before .before .before .before .before .before .before .before .before .before .pre .0 .laid in
+    let p = c .before .before .before .before .before .before .before .before .pre .0 .laid in
     (p .sized, p .few)
 
 seed-place-requires-2 : tie.Need-seed-place-requires-2
@@ -52,13 +52,13 @@ seed-place-requires-2 c κs = search needs
 
 put-cell-requires-2 : tie.Need-put-cell-requires-2
 put-cell-requires-2 c κs =
-    let a = c .before .before .before .before .before .before .before .before .before .before .before .before .args in
-    let p = c .before .before .before .before .before .before .before .before .before .before .before .before .pre in
-    let size = c .before .before .before .before .before .before .put-cell .ensures .size in
+    let a = c .before .before .before .before .before .before .before .before .before .before .args in
+    let p = c .before .before .before .before .before .before .before .before .before .before .pre in
+    let size = c .before .before .before .before .before .put-cell .ensures .size in
     let last = c .before .last-place .ensures in
     let inside = cell-end (a .g .m) (a .g .b) (a .i) (p .1) in
     let end = last-cell (p .0 .laid .sized) 0 in
-    ready (eqb (a .columns .from) 0) (group-kept size (p .0)) (omega arith) (omega (arith, p .1)) (omega arith)
+    ready (eqb (a .t0) 0) (group-kept size (p .0)) (omega arith) (omega (arith, p .1)) (omega arith)
     (record { inside = omega (arith, size, inside, p .0 .laid); later = omega (arith, last, end, inside, p .0 .laid); whole = λ h. omega (arith, size, last, end, p .0 .laid) }) (omega (arith, size, last, end, p .0 .laid)) (c .seed-place2 .ensures)
 
 same-length : tie.Need-same-length
@@ -66,12 +66,12 @@ same-length c = search needs
 
 returns : tie.Need-returns
 returns c =
-    let a = c .before .before .before .before .before .before .before .before .before .before .before .before .before .before .before .args in
-    let p = c .before .before .before .before .before .before .before .before .before .before .before .before .before .before .before .pre in
-    let t = c .before .before .before .before .before .before .before .before .before .put-cell in
+    let a = c .before .before .before .before .before .before .before .before .before .before .before .before .before .args in
+    let p = c .before .before .before .before .before .before .before .before .before .before .before .before .before .pre in
+    let t = c .before .before .before .before .before .before .before .before .put-cell in
     let u = c .before .before .put-cell2 in
-    let fresh = eqb (a .columns .from) 0 in
-    grown-one fresh (a .g) (p .0 .laid .sized) (a .i) (p .1) (a .columns .from) (a .columns .to) (p .0 .order) (p .0 .most) (now (a .s)) (t .last .0) (u .last .0) (c .before .before .before .before .before .before .before .before .before .before .seed-place .ensures)
+    let fresh = eqb (a .t0) 0 in
+    grown-one fresh (a .g) (p .0 .laid .sized) (a .i) (p .1) (a .t0) (a .t1) (p .0 .order) (p .0 .most) (now (a .s)) (t .last .0) (u .last .0) (c .before .before .before .before .before .before .before .before .before .seed-place .ensures)
     (c .before .before .before .seed-place2 .ensures ∙ ap (λ (v : ℕ). cond fresh v (a .g .k * a .g .column + a .i * a .g .b + a .g .column)) (c .before .before .before .before .last-place .ensures)) (t .ensures) (u .ensures)
 
 pub put-row-spec : {M : Type 1} → statement M

@@ -45,7 +45,7 @@ put-cell-requires c κs =
     let last = c .before .before .before .before .before .before .before .last-place .ensures in
     let end = last-cell (p .sized) 0 in
     ready (eqb (y .t) 0)
-    (record { laid = laid-kept (y .inv .1) p; order = omega arith; most = e .1; few = e .2; first = omega (arith, p .few, p .sized .few); second = omega (arith, p .few, p .sized .few) })
+    (record { laid = laid-kept (y .inv .1) p; order = omega arith; most = e .1; few = e .2 })
     (omega arith) (omega (arith, p .sized .big)) (omega (arith, last))
     (record { inside = omega (arith, last, end, p .whole, y .inv .1); later = omega (arith, last, end, p .whole); whole = λ h. absurd (omega (arith, y .inv .1)) })
     (omega (arith, y .inv .1)) (c .before .seed-place .ensures)
