@@ -3,9 +3,9 @@
 --   broken-row, broken-diagonal   what a line breaks by is the amount of its equation
 --   every                       all data columns
 --   one-line, followed          a line that can be summed over them, and followed through them
---   made-ready, still-ready     room in which S was summed, and then a line before it
+--   made-ready                  room in which S was summed
 --   seed-most, line-room        the seed of a line: the second cell, or nothing
---   summed, one-amount          a line plus its seed, and one byte of it by the line's places, is what the line breaks by
+--   line-set, one-amount        a line summed in the first cell, and one byte of it by the line's places, is what the line breaks by
 --   first-none, first-put       of bytes that are all zero, and of a run that was set
 --   odd-there, odd-none         a lane that was found, and none
 --   odd-more                    one line more at which no lane is odd
@@ -26,6 +26,7 @@ use Rattle.parity.proofs.Candidate.{rowAmount, row-amount}
 use Rattle.parity.proofs.Suspects.{hold-h, hold-d, amounts-hold}
 use Rattle.cells.specs.Runs.{Put, Tells}
 use Rattle.cells.proofs.Parts.{part, part-at, by-order}
+use Rattle.cells.proofs.Puts.{put-same}
 use Rattle.lines.specs.declared.Columns.{Columns}
 use Rattle.lines.specs.declared.Grid.{Grid}
 use Rattle.lines.specs.Lines.{real, line}
@@ -113,13 +114,6 @@ pub seed-most : (e b : ℕ) → (2 - e) * b ≤ 2 * b
 seed-most e b = mul-le-mul-right b (omega arith)
 
 module _ {g : Grid} {s w : List ℕ} (z : Ready g s w) where
-  pub still-ready : {v : List ℕ} {f : ℕ → ℕ} → Put w v 0 (g .b) f → Ready g s v
-  still-ready p = record {
-    searched = z .searched;
-    size = p .size ∙ z .size;
-    special = λ l h. p .after (g .b + l) (omega arith) ∙ z .special l h;
-  }
-
   -- the seed of a row is nothing, that of a diagonal S
   module _ (e : ℕ) (slant : e ≤ 1) where
     by-slant : (P : ℕ → ℕ → Type 0) → P 0 (2 * g .b) → P 1 (g .b) → P e ((2 - e) * g .b)
@@ -140,11 +134,19 @@ module _ {g : Grid} {s w : List ℕ} (z : Ready g s w) where
         (List·getD-eq-default w 0 {n = 2 * g .b + l} (omega (arith, z .size)) ∙ sym (zero-mul (window (g .m) (g .k) (lane (g .m) (g .b) s l) 1 (g .m - 1) 0 (g .k))))
         (z .special l h ∙ sym (one-mul (window (g .m) (g .k) (lane (g .m) (g .b) s l) 1 (g .m - 1) 0 (g .k))))
 
-    pub summed : {columns : Columns} → columns ≡ every g → (i l : ℕ) → l < g .b
+    summed : {columns : Columns} → columns ≡ every g → (i l : ℕ) → l < g .b
         → getD w ((2 - e) * g .b + l) 0 ⊕ windowOf g s e i columns l ≡ broken (g .m) (g .k) (lane (g .m) (g .b) s l) e i
     unfolding broken
     summed q i l h =
         ap₂ _⊕_ (seed-is l h) (ap (λ (x : Columns). windowOf g s e i x l) q ∙ all-window (g .m) (g .k) (lane (g .m) (g .b) s l) (few-columns (z .searched)) e i slant)
+
+    -- the first cell became the line
+    pub line-set : {columns : Columns} → columns ≡ every g → (i : ℕ) (v : List ℕ) → Put w v 0 (g .b) (λ l. getD w ((2 - e) * g .b + l) 0 ⊕ windowOf g s e i columns l)
+        → Put w v 0 (g .b) (λ l. broken (g .m) (g .k) (lane (g .m) (g .b) s l) e i) × Ready g s v
+    line-set q i v p = (
+      put-same p (λ l h. summed q i l h),
+      record { searched = z .searched; size = p .size ∙ z .size; special = λ l h. p .after (g .b + l) (omega arith) ∙ z .special l h },
+    )
 
     -- one byte, the sum over the places that were found
     pub one-amount : {columns : Columns} → columns ≡ every g → (i l : ℕ) → l < g .b → {y n more : ℕ} {o : List ℕ} (at : List ℕ) → n ≤ length at

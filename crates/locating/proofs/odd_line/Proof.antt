@@ -1,6 +1,5 @@
 -- `locating::odd_line` meets its contract: the first cell becomes what the line breaks by, lane for lane.
-use Rattle.cells.proofs.Puts.{put-same}
-use Rattle.locating.proofs.Lanes.{one-line, still-ready, seed-most, line-room, summed, first-put}
+use Rattle.locating.proofs.Lanes.{one-line, seed-most, line-room, line-set, first-put}
 use borrow.Author.Needs.{needs}
 use native.Mathlib.Omega.{arith}
 use Rattle.locating.proofs.odd_line.Statement.{statement}
@@ -41,10 +40,9 @@ returns : tie.Need-returns
 returns c =
     let z = c .before .before .before .before .before .before .before .before .before .before in
     let a = z .args in
-    let f = c .before .before .before .before .before .sum-line in (
-      first-put (f .last .0) (omega (arith, f .ensures .size, z .pre .0 .size)) (put-same (f .ensures) (λ l h. summed (z .pre .0) (a .slant) (z .pre .1) (c .before .before .before .before .before .before .all-but .ensures) (a .i) l h)) (c .find-set .ensures),
-      still-ready (z .pre .0) (f .ensures),
-    )
+    let f = c .before .before .before .before .before .sum-line in
+    let r = line-set (z .pre .0) (a .slant) (z .pre .1) (c .before .before .before .before .before .before .all-but .ensures) (a .i) (f .last .0) (f .ensures) in
+    (first-put (f .last .0) (omega (arith, f .ensures .size, z .pre .0 .size)) (r .0) (c .find-set .ensures), r .1)
 
 pub odd-line-spec : {M : Type 1} → statement M
 odd-line-spec =
