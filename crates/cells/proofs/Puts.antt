@@ -8,7 +8,6 @@
 --   put-cleared         a lent part that came back cleared
 --   put-copied          a lent part that came back as a run which was set before
 --   put-taken           a lent part that came back as a part of another list
---   put-lent            one byte more, which was lent
 --   put-again           a run that was set, and then set again to what it held with something added
 --   put-all             the whole run became another one
 --   put-beside          the same byte set in both lists, after the run
@@ -136,15 +135,6 @@ put-copied w x y z at n f room e p so =
     put-count (put-part w z at n f (omega arith) (ap length so ∙ p .size ∙ sym e) (λ l h.
     let q : l ≡ 0 + l = omega arith in
     ap (λ (v : List ℕ). getD v l 0) so ∙ ap (λ (v : ℕ). getD y v 0) q ∙ p .inside l (omega arith))) e
-
--- one byte more, which was lent
-pub put-lent : (s t y : List ℕ) (j n : ℕ) (f : ℕ → ℕ) → j < length t → n ≡ 1 → length y ≡ 1 → getD y 0 0 ≡ f j → Put s t 0 j f → Put s (putMid j n t y) 0 (j + 1) f
-put-lent s t y j n f room e size so p =
-    put-next s t (putMid j n t y) 0 j j 1 f f (omega arith) (omega arith) p (subst (λ (x : ℕ). Put t (putMid j n t y) x 1 (λ l. f (j + l))) (omega arith)
-    (put-count (put-part t y j n (λ l. f (j + l)) (omega arith) (size ∙ sym e) (λ l h.
-    let z : l ≡ 0 = omega arith in
-    let q : j ≡ j + l = omega arith in
-    ap (λ (x : ℕ). getD y x 0) z ∙ so ∙ ap f q)) e)) (λ l _ _. refl)
 
 -- a run that was set, and then set again to what it held with something added
 pub put-again : {x y z : List ℕ} {at n : ℕ} {f : ℕ → ℕ} (g : ℕ → ℕ) → Put x y at n f → Put y z at n (λ l. getD y (at + l) 0 ⊕ g l) → Put x z at n (λ l. f l ⊕ g l)

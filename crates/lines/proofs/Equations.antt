@@ -3,10 +3,6 @@
 --   S-line      S is line m - 1 of slant 1
 --   D-line      D of row i is S plus line i of slant 1
 --   row-at      a line of slant 0 stays in its row
---   rest-span   what a cell differs by, as it is summed
---   rest-h      what the cells of column k differ by from the rows over the first k columns are the rows' amounts
---   rest-row    the same, with nothing for row m - 1
---   rest-d      what the cells of column k + 1 differ by from S plus the diagonals are the diagonals' amounts
 --   row-line    a row's amount is the row over the first k + 1 columns
 --   line-same   a line over the first n columns depends on the bytes of those columns alone
 --   line-kept, span-kept   both in a stripe, where all bytes of its first n columns are as they were
@@ -14,29 +10,23 @@ use mathlib.Core.Path.{_≡_, sym, ap, ap₂, _∙_}
 use mathlib.Core.List.{List}
 use Prim.Native.Nat.{ℕ, _+_, _*_, _-_, _≤_, _<_}
 use native.Mathlib.Nat.{zero-mul, one-mul}
-use native.Mathlib.Decide.{decLt}
 use native.Mathlib.Omega.{arith}
 use lib.ListN.{getD}
 use borrow.Author.Tests.{lt-ltb}
 use Rattle.parity.specs.Xor.{_⊕_}
 use Rattle.parity.specs.Shape.{columnLength}
-use Rattle.parity.specs.Equations.{Lane, cell, back, H, S, D, amountH, amountD}
+use Rattle.parity.specs.Equations.{Lane, cell, back, H, S, D, amountH}
 use Rattle.parity.specs.Stripe.{lane}
-use Rattle.parity.proofs.Xor.{⊕-comm, ⊕-self, ⊕-zero, xor}
-use Rattle.parity.proofs.Sum.{sum-cong, sum-cut, sum-none}
+use Rattle.parity.proofs.Xor.{⊕-comm}
+use Rattle.parity.proofs.Sum.{sum-cong, sum-cut}
 use Rattle.parity.proofs.Cells.{diagonal, S-diagonal, cell-imaginary}
-use Rattle.parity.proofs.Candidate.{rowAmount, row-amount, row-amount-last}
-use Rattle.lines.specs.Lines.{real, line, span, rest}
-use Rattle.lines.proofs.Lines.{back-none, real-in, real-out, span-more, span-line, span-agree}
+use Rattle.lines.specs.Lines.{real, line, span}
+use Rattle.lines.proofs.Lines.{back-none, real-in, span-more, span-line, span-agree}
 use Rattle.lines.proofs.Cells.{cell-kept}
 
 -- a line of slant 0 stays in its row
 pub row-at : (m i t : ℕ) → i < m → back m i (0 * t) ≡ i
 row-at m i t h = ap (back m i) (zero-mul t) ∙ back-none m i h
-
-pub rest-span : (x : List ℕ) (m : ℕ) (a : Lane) (e i k t l : ℕ) → getD x l 0 ⊕ span m a e i 0 k ⊕ real m a i t ≡ rest x m a e i k t l
-unfolding rest
-rest-span x m a e i k t l = ap (λ (v : ℕ). getD x l 0 ⊕ v ⊕ real m a i t) (span-line m a e i k)
 
 module _ (m k : ℕ) (few : k ≤ m) (a : Lane) where
   cell-line : (i t : ℕ) → t < k → cell m k a i t ≡ real m a i t
@@ -61,28 +51,6 @@ module _ (m k : ℕ) (few : k ≤ m) (a : Lane) where
   pub D-line : (i : ℕ) → D m k a i ≡ S m k a ⊕ line m a 1 i k
   unfolding D diagonal
   D-line i = ap (λ (x : ℕ). S m k a ⊕ x) (diagonal-line i)
-
-  -- x is a cell of zeros
-  pub rest-h : (x : List ℕ) (l i : ℕ) → i < m - 1 → getD x l 0 ≡ 0 → rest x m a 0 i k k l ≡ amountH m k a i
-  unfolding rest amountH
-  rest-h x l i h e =
-      ap₂ (λ (p q : ℕ). p ⊕ q ⊕ real m a i k) e (sym (H-line i (omega arith)))
-      ∙ ap (λ (p : ℕ). 0 ⊕ H m k a i ⊕ p) (real-in m a i k h) ∙ simp xor
-
-  pub rest-row : (x : List ℕ) (l i : ℕ) → i < m → getD x l 0 ≡ 0 → rest x m a 0 i k k l ≡ rowAmount m k a i
-  unfolding rest line
-  rest-row x l i h e = elim (decLt i (m - 1)) [
-    | yes c ↦ rest-h x l i c e ∙ sym (row-amount m k a i c)
-    | no c ↦ ap₂ _⊕_ (ap₂ _⊕_ e (sum-none k (λ t _. ap (λ (r : ℕ). real m a r t) (row-at m i t h) ∙ real-out m a i t (omega arith)))) (real-out m a i k (omega arith))
-        ∙ ⊕-zero (0 ⊕ 0) ∙ ⊕-self 0 ∙ sym (row-amount-last m k a i (omega arith))
-  ]
-
-  -- x is the cell S
-  pub rest-d : 1 < m → (x : List ℕ) (l i : ℕ) → i < m - 1 → getD x l 0 ≡ line m a 1 (m - 1) k → rest x m a 1 i k (k + 1) l ≡ amountD m k a i
-  unfolding rest amountD
-  rest-d big x l i h e =
-      ap₂ (λ (p q : ℕ). p ⊕ line m a 1 i k ⊕ q) (e ∙ sym (S-line big)) (real-in m a i (k + 1) h)
-      ∙ ap (λ (p : ℕ). p ⊕ a i (k + 1)) (sym (D-line i)) ∙ simp xor
 
   pub row-line : (i : ℕ) → i < m - 1 → amountH m k a i ≡ line m a 0 i (k + 1)
   unfolding amountH

@@ -1,19 +1,17 @@
 -- Whole columns of a whole stripe: what the loops over them ask for, and the lines that they start from.
 --   sized, one-row                  the numbers of a shape, and of a stripe of one row
 --   row-crosses, diagonal-crosses   rows go through all columns of a stripe, diagonals through the data columns
---   column-crosses                  rows go through a column that stands alone
 --   column-room, short-column       a column has room for its m - 1 cells; a column of short cells is not long
 --   seed-none, no-seed              an empty seed is long enough, and zero
---   whole-line, turned-by           row r, shifted by nothing, is row r; shifted by as much as u rows up, it is the row u rows up
+--   whole-line                      row r, shifted by nothing, is row r
 use mathlib.Core.Path.{_≡_, ap, _∙_}
 use mathlib.Core.List.{List}
 use Prim.Native.Nat.{ℕ, _+_, _*_, _-_, _%_, _≤_, _<_}
-use native.Mathlib.Nat.{mul-le-mul, mul-le-mul-right, mod-eq-of-lt, add-mod-mod}
+use native.Mathlib.Nat.{mul-le-mul, mul-le-mul-right, mod-eq-of-lt}
 use native.Mathlib.Omega.{arith}
 use lib.ListN.{length, getD, length-take, List·getD-eq-default}
 use Rattle.parity.specs.Xor.{_⊕_}
 use Rattle.parity.specs.Shape.{Shape, columnLength}
-use Rattle.parity.specs.Equations.{back}
 use Rattle.parity.proofs.Xor.{zero-⊕}
 use Rattle.cells.proofs.Parts.{part}
 use Rattle.lines.specs.Lines.{Sized, Crosses}
@@ -50,9 +48,6 @@ module _ {m k b c p : ℕ} (z : Sized m b c) (few : k ≤ m) (whole : p ≡ (k +
     columns = columns (omega arith);
   }
 
-pub column-crosses : {m b c n i : ℕ} → Sized m b c → n ≡ c → i < m → Crosses m c n 0 i 0 1
-column-crosses z e h = record { slant = omega arith; inside = h; order = omega arith; within = omega arith; most = omega arith; columns = omega arith }
-
 pub column-room : {m b c n : ℕ} → Sized m b c → n ≡ c → 0 + (m - 1) * b ≤ n
 column-room {m} {b} {c} z h = omega (arith, column-is m b c z)
 
@@ -67,7 +62,3 @@ no-seed s l {x} e = ap (λ (z : ℕ). z ⊕ x) (List·getD-eq-default (part s 0 
 
 pub whole-line : {m r : ℕ} → r < m → (r + 0) % m ≡ r
 whole-line {m} {r} h = let e : r + 0 ≡ r = omega arith in ap (λ (x : ℕ). x % m) e ∙ mod-eq-of-lt h
-
-pub turned-by : (m r u : ℕ) → (r + back m 0 u) % m ≡ back m r u
-unfolding back
-turned-by m r u = let e : 0 + (m - u) ≡ m - u = omega arith in add-mod-mod r (0 + (m - u)) m ∙ ap (λ (x : ℕ). (r + x) % m) e

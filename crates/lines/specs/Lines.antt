@@ -3,7 +3,6 @@
 --   line m a e i n      the sum of line i over the first n columns: with slant e = 0 it is row i, with e = 1 diagonal i
 --   span m a e i x y    the same over the columns from x up to y: the sum over all below y without that over all below x
 --   ended m a e i h n   line i over the first n columns with its end, the cell in row i of column h: H's cell ends a row, D's a diagonal
---   rest x m a e i k t l   what lane l of the cell in row i of column t differs by from the cell x plus line i over the first k columns
 --   Sized m b c         the numbers of a shape, as far as loops need them, with c the bytes of a column
 --   Laid g s            these numbers, with k, and s as long as a stripe
 --   Crosses …           line i of slant e can be followed through the columns from x up to y of a stripe of n bytes
@@ -12,7 +11,7 @@ use mathlib.Core.Bool.{cond}
 use mathlib.Core.List.{List}
 use Prim.Native.Nat.{ℕ, _+_, _-_, _*_, _≤_, _<_}
 use lib.Dec.{ltb}
-use lib.ListN.{length, getD}
+use lib.ListN.{length}
 use Rattle.parity.specs.Xor.{_⊕_}
 use Rattle.parity.specs.Sum.{sum}
 use Rattle.parity.specs.Shape.{columnLength}
@@ -30,9 +29,6 @@ span m a e i x y = line m a e i x ⊕ line m a e i y
 
 unfoldable pub ended : ℕ → Lane → ℕ → ℕ → ℕ → ℕ → ℕ
 ended m a e i h n = real m a i h ⊕ span m a e i 0 n
-
-unfoldable pub rest : List ℕ → ℕ → Lane → ℕ → ℕ → ℕ → ℕ → ℕ → ℕ
-rest x m a e i k t l = getD x l 0 ⊕ line m a e i k ⊕ real m a i t
 
 pub record Sized (m b c : ℕ) : Type 0 where
   pub big : 1 < m
