@@ -31,7 +31,7 @@ use Rattle.lines.proofs.Places.{window-first}
 use Rattle.lines.proofs.Ended.{ended-but, ended-same, crossing, row-crossing, row-clear, diagonal-end, diagonal-clear}
 use Rattle.lines.proofs.Equations.{H-line, S-line, D-line}
 use Rattle.lines.proofs.Cells.{cell-end}
-use Rattle.rewriting.specs.Rewrite.{told, Telling, Rewrote}
+use Rattle.rewriting.specs.Rewrite.{told, Rewrote}
 
 -- ---- what the lines of a lane have in the columns other than u
 
