@@ -53,7 +53,7 @@ module _ (m k : ℕ) (most : k ≤ 127) (few : k ≤ m) (a : Lane) (i : ℕ) whe
       turn : (x y : ℕ) → x ⊕ (y ⊕ 0) ≡ y ⊕ x
       turn x y = simp xor
 
-  pub diagonal-told : (u : ℕ) → u ≡ k + 1 → window m k (without u 129 a) 1 i 0 k ≡ line m a 1 i k
+  diagonal-told : (u : ℕ) → u ≡ k + 1 → window m k (without u 129 a) 1 i 0 k ≡ line m a 1 i k
   unfolding ended
   diagonal-told u e =
       window-first m k (without u 129 a) 1 i k
@@ -88,7 +88,7 @@ module _ {g : Grid} {s : List ℕ} (laid : Laid g s) (u : ℕ) where
     unfolding columnLength
     within = mul-le-mul-right (g .b) most
 
-    pub elsewhere : (l i y : ℕ) → l < g .b → i < g .m - 1 → y ≢ u → lane (g .m) (g .b) v l i y ≡ lane (g .m) (g .b) s l i y
+    elsewhere : (l i y : ℕ) → l < g .b → i < g .m - 1 → y ≢ u → lane (g .m) (g .b) v l i y ≡ lane (g .m) (g .b) s l i y
     unfolding byte
     elsewhere l i y hl hi ne =
         let c : ℕ = columnLength (g .m) (g .b) in
