@@ -5,6 +5,7 @@
 --   diagonal-crossing            what a diagonal with D's cell has in a data column
 --   diagonal-end, diagonal-clear    in D, and in another
 --   ended-but                    a line without columns u and v is the line plus its cells there
+--   ended-same                   a line without columns u and v depends on the bytes of the other columns alone
 --   ended-row, ended-diagonal    where the equations hold a row with H's cell is zero, and a diagonal with D's is S
 --   rows-left, diagonals-left    s has what a has but in columns u and v, and the equations of a hold: what is left of a row of s is what
 --                                a has there in these columns, and of a diagonal that plus S
@@ -171,6 +172,23 @@ module _ (m k : ℕ) (a : Lane) (i : ℕ) where
   pub diagonal-clear : (t : ℕ) → k ≤ t → t ≢ k + 1 → crossing m a 1 i (k + 1) k t ≡ 0
   diagonal-clear t h ne = ap₂ _⊕_ (inside-out m a 1 i k t h) (end-out m a 1 i (k + 1) t ne) ∙ zero-⊕ 0
 
+-- ---- where two lanes have the same bytes but in columns u and v
+
+module _ (m k : ℕ) (a s : Lane) (u v : ℕ) (same : (r t : ℕ) → r < m - 1 → t < k + 2 → t ≢ u → t ≢ v → s r t ≡ a r t) where
+  without-same : (r t : ℕ) → r < m - 1 → t < k + 2 → without u v s r t ≡ without u v a r t
+  without-same r t hr ht = by-same (without u v s r t ≡ without u v a r t) t u
+      (λ q. first-without m u v s r t q ∙ sym (first-without m u v a r t q))
+      (λ q. by-same (without u v s r t ≡ without u v a r t) t v
+      (λ z. second-without m u v s r t z ∙ sym (second-without m u v a r t z))
+      (λ z. without-other m u v s r t q z ∙ same r t hr ht q z ∙ sym (without-other m u v a r t q z)))
+
+  pub ended-same : (e i h n : ℕ) → h < k + 2 → n ≤ k + 2 → ended m (without u v s) e i h n ≡ ended m (without u v a) e i h n
+  unfolding ended
+  ended-same e i h n low most =
+      ap₂ _⊕_
+      (real-same m (without u v s) (without u v a) i (λ hr. without-same i h hr low))
+      (span-agree m (without u v s) (without u v a) e i 0 n (omega arith) (λ r t hr _ ht. without-same r t hr (omega arith)))
+
 -- ---- where the equations hold
 
 module _ (m k : ℕ) (big : 1 < m) (few : k ≤ m) (a : Lane) (holds : Holds m k a) where
@@ -187,23 +205,9 @@ module _ (m k : ℕ) (big : 1 < m) (few : k ≤ m) (a : Lane) (holds : Holds m k
       sums x y = simp xor
 
   module _ (s : Lane) (u v : ℕ) (apart : u ≢ v) (same : (r t : ℕ) → r < m - 1 → t < k + 2 → t ≢ u → t ≢ v → s r t ≡ a r t) where
-    without-same : (r t : ℕ) → r < m - 1 → t < k + 2 → without u v s r t ≡ without u v a r t
-    without-same r t hr ht = by-same (without u v s r t ≡ without u v a r t) t u
-        (λ q. first-without m u v s r t q ∙ sym (first-without m u v a r t q))
-        (λ q. by-same (without u v s r t ≡ without u v a r t) t v
-        (λ z. second-without m u v s r t z ∙ sym (second-without m u v a r t z))
-        (λ z. without-other m u v s r t q z ∙ same r t hr ht q z ∙ sym (without-other m u v a r t q z)))
-
-    ended-same : (e i h n : ℕ) → h < k + 2 → n ≤ k + 2 → ended m (without u v s) e i h n ≡ ended m (without u v a) e i h n
-    unfolding ended
-    ended-same e i h n low most =
-        ap₂ _⊕_
-        (real-same m (without u v s) (without u v a) i (λ hr. without-same i h hr low))
-        (span-agree m (without u v s) (without u v a) e i 0 n (omega arith) (λ r t hr _ ht. without-same r t hr (omega arith)))
-
     pub rows-left : (i : ℕ) → i < m → ended m (without u v s) 0 i k k ≡ crossing m a 0 i k k u ⊕ crossing m a 0 i k k v
     rows-left i h =
-        ended-same 0 i k k (omega arith) (omega arith)
+        ended-same m k a s u v same 0 i k k (omega arith) (omega arith)
         ∙ ended-but m a 0 i u v apart k k
         ∙ ap (λ (x : ℕ). x ⊕ (crossing m a 0 i k k u ⊕ crossing m a 0 i k k v)) (ended-row i h)
         ∙ zero-⊕ (crossing m a 0 i k k u ⊕ crossing m a 0 i k k v)
@@ -211,6 +215,6 @@ module _ (m k : ℕ) (big : 1 < m) (few : k ≤ m) (a : Lane) (holds : Holds m k
     pub diagonals-left : (i : ℕ) → i < m
         → ended m (without u v s) 1 i (k + 1) k ≡ S m k a ⊕ (crossing m a 1 i (k + 1) k u ⊕ crossing m a 1 i (k + 1) k v)
     diagonals-left i h =
-        ended-same 1 i (k + 1) k (omega arith) (omega arith)
+        ended-same m k a s u v same 1 i (k + 1) k (omega arith) (omega arith)
         ∙ ended-but m a 1 i u v apart (k + 1) k
         ∙ ap (λ (x : ℕ). x ⊕ (crossing m a 1 i (k + 1) k u ⊕ crossing m a 1 i (k + 1) k v)) (ended-diagonal i h)
