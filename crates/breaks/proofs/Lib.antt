@@ -1,4 +1,0 @@
-pub mod Buts
-pub mod Folds
-pub mod Bands
-pub mod Gathers

@@ -1,0 +1,6 @@
+pub mod Amounts
+pub mod Buts
+pub mod Bands
+pub mod Gathers
+pub mod Tests
+pub mod Wholes

@@ -1,0 +1,102 @@
+-- The columns other than u fit a valid stripe exactly when no line of `lineBut` differs from line m - 1.
+--   rest-holds, holds-rest    so in one lane no line differs exactly when the candidate's equations hold
+--   none-holds, holds-none    the same where no column is left out
+--   fits-one, fits-none       and in all lanes, with a column left out and with none
+--   broken-rows, broken-diagonals   what is counted are the amounts by which rows and diagonals break
+--   breaks-none               with none, where a diagonal breaks
+use mathlib.Core.Path.{_≡_, sym, ap, ap₂, _∙_}
+use mathlib.Core.Logic.{_↔_}
+use mathlib.Core.Bool.{not, true, false, false≢true}
+use mathlib.Core.List.{List}
+use Prim.Native.Nat.{ℕ, _+_, _-_, _≤_, _<_}
+use native.Mathlib.Nat.{one-mul, le-refl}
+use native.Mathlib.Omega.{arith}
+use lib.Dec.{eqb}
+use borrow.Author.Tests.{eq-eqb, eqb-true}
+use Rattle.parity.specs.Xor.{_⊕_}
+use Rattle.parity.specs.Equations.{Lane, back, amountD, Holds}
+use Rattle.parity.specs.Stripe.{lane, brokenRows, brokenDiagonals}
+use Rattle.parity.specs.Candidate.{candidate, FitsBut}
+use Rattle.parity.proofs.Xor.{xor}
+use Rattle.parity.proofs.Count.{count-cong, some-cong}
+use Rattle.parity.proofs.Cells.{holds-same}
+use Rattle.parity.proofs.Candidate.{rowAmount, candidate-other, candidate-H, candidate-D}
+use Rattle.parity.proofs.Suspects.{hold-h, hold-d, amounts-hold, candidate-H-h, candidate-H-d, candidate-D-h, candidate-D-d}
+use Rattle.cells.proofs.Parts.{by-order}
+use Rattle.lines.specs.Lines.{real, line}
+use Rattle.lines.proofs.Lines.{back-lt, real-out}
+use Rattle.lines.proofs.Equations.{row-at}
+use Rattle.lines.proofs.Valid.{line-without}
+use Rattle.lines.proofs.Amounts.{diagonal-lines}
+use Rattle.lines.proofs.Places.{without-one}
+use Rattle.counting.specs.Counting.{breaking}
+use Rattle.counting.proofs.Buts.{rest, rest-H, rest-D, rest-data}
+use Rattle.counting.proofs.Amounts.{breaking-zero, zero-breaking}
+
+module _ (m k : ℕ) (big : 1 < m) (few : k ≤ m) (a : Lane) where
+  abbrev rests : ℕ → ℕ → ℕ
+  rests = rest m k big few a
+
+  rest-holds : (u : ℕ) → u < k + 2 → ((i : ℕ) → i < m - 1 → rests u i ≡ 0) → Holds m k (candidate m k a u)
+  rest-holds u h e = by-order (Holds m k (candidate m k a u)) u k
+      (λ low. amounts-hold m k (candidate m k a u) (candidate-H m k a few u low) (λ i l. sym (rest-data m k big few a u i low l) ∙ e i l))
+      (λ high. by-order (Holds m k (candidate m k a u)) u (k + 1)
+      (λ low. let q : u ≡ k = omega arith in
+      rw q (amounts-hold m k (candidate m k a k) (λ i l. candidate-H-h m k a i) (λ i l. candidate-H-d m k a i ∙ sym (rest-H m k big few a i l) ∙ (rw q at (e i l)))))
+      (λ high. let q : u ≡ k + 1 = omega arith in
+      rw q (amounts-hold m k (candidate m k a (k + 1)) (λ i l. candidate-D-h m k a i ∙ sym (rest-D m k big few a i l) ∙ (rw q at (e i l))) (λ i l. candidate-D-d m k a i))))
+
+  holds-rest : (u : ℕ) → u < k + 2 → Holds m k (candidate m k a u) → (i : ℕ) → i < m - 1 → rests u i ≡ 0
+  holds-rest u h v i l = by-order (rests u i ≡ 0) u k
+      (λ low. rest-data m k big few a u i low l ∙ hold-d m k (candidate m k a u) v i l)
+      (λ high. by-order (rests u i ≡ 0) u (k + 1)
+      (λ low. let q : u ≡ k = omega arith in
+      rw q (rest-H m k big few a i l ∙ sym (candidate-H-d m k a i) ∙ hold-d m k (candidate m k a k) (rw q at v) i l))
+      (λ high. let q : u ≡ k + 1 = omega arith in
+      rw q (rest-D m k big few a i l ∙ sym (candidate-D-h m k a i) ∙ hold-h m k (candidate m k a (k + 1)) (rw q at v) i l)))
+
+  -- no column is left out
+  none-holds : (u : ℕ) → k + 2 ≤ u → ((i : ℕ) → i < m - 1 → rests k i ≡ 0) → ((i : ℕ) → i < m - 1 → rests (k + 1) i ≡ 0) → Holds m k (candidate m k a u)
+  none-holds u h d r = holds-same m k a (candidate m k a u) (λ i t _ l. sym (candidate-other m k a u i t (λ e. absurd (omega arith))))
+      (amounts-hold m k a (λ i l. sym (rest-D m k big few a i l) ∙ r i l) (λ i l. sym (rest-H m k big few a i l) ∙ d i l))
+
+  holds-none : (u : ℕ) → k + 2 ≤ u → Holds m k (candidate m k a u) → Holds m k a
+  holds-none u h = holds-same m k (candidate m k a u) a (λ i t _ l. candidate-other m k a u i t (λ e. absurd (omega arith)))
+
+module _ (m k b : ℕ) (big : 1 < m) (few : k ≤ m) (s : List ℕ) (u : ℕ) where
+  -- how many of the lines that leave column u out differ from line m - 1
+  abbrev differing : ℕ → ℕ
+  differing u = breaking (m - 1) b (λ l i. rest m k big few (lane m b s l) u i)
+
+  all-zero : (u : ℕ) {n : ℕ} → n ≡ differing u → n ≡ 0 → (l : ℕ) → l < b → (i : ℕ) → i < m - 1 → rest m k big few (lane m b s l) u i ≡ 0
+  all-zero u e z l hl i hi = breaking-zero b _ (m - 1) (sym e ∙ z) i l hi hl
+
+  pub fits-one : {n : ℕ} → u < k + 2 → n ≡ differing u → (eqb n 0 ≡ true) ↔ FitsBut m k b u s
+  fits-one {n} h e = (
+    λ z l hl. rest-holds m k big few (lane m b s l) u h (all-zero u e (eqb-true n 0 z) l hl),
+    λ f. eq-eqb n 0 (e ∙ zero-breaking b _ (m - 1) (λ i l hi hl. holds-rest m k big few (lane m b s l) u h (f l hl) i hi)),
+  )
+
+  module _ (h : k + 2 ≤ u) {d : ℕ} (diagonals : d ≡ differing k) where
+    no-diagonal : FitsBut m k b u s → d ≡ 0
+    no-diagonal f = diagonals ∙ zero-breaking b _ (m - 1) (λ i l hi hl.
+        rest-H m k big few (lane m b s l) i hi ∙ hold-d m k (lane m b s l) (holds-none m k big few (lane m b s l) u h (f l hl)) i hi)
+
+    pub breaks-none : (d ≡ 0 → ⊥) → (false ≡ true) ↔ FitsBut m k b u s
+    breaks-none ne = (λ e. absurd (false≢true e), λ f. absurd (ne (no-diagonal f)))
+
+    pub fits-none : {n : ℕ} → d ≡ 0 → n ≡ differing (k + 1) → (eqb n 0 ≡ true) ↔ FitsBut m k b u s
+    fits-none {n} z e = (
+      λ x l hl. none-holds m k big few (lane m b s l) u h (all-zero k diagonals z l hl) (all-zero (k + 1) e (eqb-true n 0 x) l hl),
+      λ f. eq-eqb n 0 (e ∙ zero-breaking b _ (m - 1) (λ i l hi hl.
+          rest-D m k big few (lane m b s l) i hi ∙ hold-h m k (lane m b s l) (holds-none m k big few (lane m b s l) u h (f l hl)) i hi)),
+    )
+
+module _ (m k b : ℕ) (big : 1 < m) (few : k ≤ m) (s : List ℕ) where
+  pub broken-rows : breaking (m - 1) b (λ l i. rest m k big few (lane m b s l) (k + 1) i) ≡ brokenRows m k b s
+  unfolding breaking brokenRows
+  broken-rows = count-cong (m - 1) (λ i h. some-cong b (λ l _. ap (λ (v : ℕ). not (eqb v 0)) (rest-D m k big few (lane m b s l) i h)))
+
+  pub broken-diagonals : breaking (m - 1) b (λ l i. rest m k big few (lane m b s l) k i) ≡ brokenDiagonals m k b s
+  unfolding breaking brokenDiagonals
+  broken-diagonals = count-cong (m - 1) (λ i h. some-cong b (λ l _. ap (λ (v : ℕ). not (eqb v 0)) (rest-H m k big few (lane m b s l) i h)))

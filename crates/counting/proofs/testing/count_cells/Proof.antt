@@ -1,0 +1,128 @@
+-- `counting::count_cells` meets its contract. The invariant: c is the count of the cells before r. Where all bytes are zero, no cell is set.
+use mathlib.Core.Path.{_≡_, sym, ap, _∙_}
+use mathlib.Core.Logic.{⊎-elim}
+use Prim.Native.Nat.{ℕ, _+_, _*_, _-_, _≤_}
+use lib.ListN.{getD}
+use denote.Ref.{now}
+use Rattle.cells.proofs.Parts.{part-at, parts-end}
+use Rattle.lines.proofs.Places.{part-length}
+use Rattle.counting.specs.Counting.{breaking}
+use Rattle.counting.proofs.Amounts.{breaking-none, breaking-same, breaking-more, zero-breaking}
+use Rattle.counting.proofs.Bands.{tells-part}
+use borrow.Author.Needs.{needs}
+use native.Mathlib.Omega.{arith}
+use Rattle.counting.proofs.testing.count_cells.Statement.{statement}
+use Rattle.counting.proofs.testing.count_cells.Tie as tie
+
+abbrev Inv-loop : tie.InvT-loop
+Inv-loop w b n c₀ r₀ c r =
+    (r ≤ n) × (c ≤ r) × (c ≡ breaking r b (λ l r. getD w (r * b + l) 0))
+
+abbrev μ-loop : tie.MeasureT-loop
+μ-loop w b n c₀ r₀ c r = n - r
+
+mul-any : tie.Need-mul-any Inv-loop μ-loop
+mul-any c = search needs
+
+sub-any : tie.Need-sub-any Inv-loop μ-loop
+sub-any c = search needs
+
+part-any-start : tie.Need-part-any-start Inv-loop μ-loop
+part-any-start c = search needs
+
+part-any-end : tie.Need-part-any-end Inv-loop μ-loop
+part-any-end c = search needs
+
+any-requires : tie.Need-any-requires Inv-loop μ-loop
+any-requires c κs = search needs
+
+returns : tie.Need-returns Inv-loop μ-loop
+returns c =
+    let z = c .before .before .before .before in
+    let a = z .args in
+    let w = now (a .w) in
+    sym (zero-breaking (a .b) (λ l r. getD w (r * a .b + l) 0) (a .n) (λ i l h k.
+    let x : i * a .b + l ≡ 0 + (i * a .b + l) = omega arith in
+    let end = parts-end (a .b) h in
+    ap (λ (y : ℕ). getD w y 0) x ∙ sym (part-at w 0 (a .n * a .b) (i * a .b + l) (omega (arith, end)))
+    ∙ c .before .any .ensures .none (c .if1 .taken) (i * a .b + l) (omega (arith, end, part-length w (a .n * a .b) (z .pre)))))
+
+loop-holds : tie.Need-loop-holds Inv-loop μ-loop
+loop-holds c = (search needs, search needs, sym (breaking-none _ _))
+
+mul-p : tie.Need-mul-p Inv-loop μ-loop
+mul-p c =
+    let z = c .before .before .before .before .before .before in
+    omega (arith, z .pre, parts-end (z .args .b) (c .loop-test .taken))
+
+add-any : tie.Need-add-any Inv-loop μ-loop
+add-any c =
+    let z = c .before .before .before .before .before .before in
+    omega (arith, z .pre, parts-end (z .args .b) (c .loop-test .taken))
+
+sub-any-2 : tie.Need-sub-any-2 Inv-loop μ-loop
+sub-any-2 c = search needs
+
+part-any-start-2 : tie.Need-part-any-start-2 Inv-loop μ-loop
+part-any-start-2 c = search needs
+
+part-any-end-2 : tie.Need-part-any-end-2 Inv-loop μ-loop
+part-any-end-2 c =
+    let z = c .before .before .before .before .before .before in
+    omega (arith, z .pre, parts-end (z .args .b) (c .loop-test .taken))
+
+any-requires-2 : tie.Need-any-requires-2 Inv-loop μ-loop
+any-requires-2 c κs = search needs
+
+add-c : tie.Need-add-c Inv-loop μ-loop
+add-c c = search needs
+
+add-r : tie.Need-add-r Inv-loop μ-loop
+add-r c = search needs
+
+loop-less : tie.Need-loop-less Inv-loop μ-loop
+loop-less c = search needs
+
+loop-again : tie.Need-loop-again Inv-loop μ-loop
+loop-again c =
+    let z = c .before .before .before .before .before .before .before .before .before in
+    let a = z .args in
+    let y = c .before .before .before .before .loop in
+    let r = c .before .any2 in
+    let f : ℕ → ℕ → ℕ = λ l r. getD (now (a .w)) (r * a .b + l) 0 in
+    let t = tells-part (now (a .w)) (r .result) (y .r * a .b) (a .b) (omega (arith, z .pre, parts-end (a .b) (c .before .before .before .loop-test .taken))) (r .ensures) in
+    ⊎-elim
+    (λ w. (omega arith, omega arith, w .1 ∙ ap (λ (v : ℕ). v + 1) (y .inv .2) ∙ sym (breaking-more (a .b) f (r .result) (y .r) t (w .0 .taken))))
+    (λ w. (omega arith, omega arith, w .1 ∙ y .inv .2 ∙ sym (breaking-same (a .b) f (r .result) (y .r) t (w .0 .left)))) (c .if2 .came)
+
+returns-2 : tie.Need-returns-2 Inv-loop μ-loop
+returns-2 c =
+    let y = c .before .loop in
+    let a = c .before .before .before .before .before .before .args in
+    let e : y .r ≡ a .n = omega arith in
+    y .inv .2 ∙ ap (λ (n : ℕ). breaking n (a .b) (λ l r. getD (now (a .w)) (r * a .b + l) 0)) e
+
+pub count-cells-spec : {M : Type 1} → statement M
+count-cells-spec =
+    tie.close
+    (tie.spec
+    Inv-loop
+    μ-loop
+    mul-any
+    sub-any
+    part-any-start
+    part-any-end
+    any-requires
+    returns
+    loop-holds
+    mul-p
+    add-any
+    sub-any-2
+    part-any-start-2
+    part-any-end-2
+    any-requires-2
+    add-c
+    add-r
+    loop-less
+    loop-again
+    returns-2)

@@ -1,0 +1,4 @@
+-- What the contracts of this crate cite.
+pub mod But
+pub mod Counting
+pub mod Gather
