@@ -1,2 +1,3 @@
--- What the program's reading promises.
+-- What the program's reading promises, and what it tells.
 pub mod Reading
+pub mod Telling

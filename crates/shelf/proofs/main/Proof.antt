@@ -1,4 +1,4 @@
--- `shelf::main` meets its contract: what is judged is what was read.
+-- `shelf::main` meets its contract: what is told is what was read.
 use borrow.Author.Needs.{needs}
 use Rattle.shelf.proofs.main.Statement.{statement}
 use Rattle.shelf.proofs.main.Tie as tie
@@ -9,26 +9,29 @@ slice-aggregate-read-input c = search needs
 read-input-requires : tie.Need-read-input-requires
 read-input-requires c κs = search needs
 
-enum-known-n : tie.Need-enum-known-n
-enum-known-n c = c .match .keys1
+slice-aggregate-tell : tie.Need-slice-aggregate-tell
+slice-aggregate-tell c = search needs
 
-sub-answer : tie.Need-sub-answer
-sub-answer c = search needs
+slice-aggregate-tell-2 : tie.Need-slice-aggregate-tell-2
+slice-aggregate-tell-2 c = search needs
 
-part-answer-start : tie.Need-part-answer-start
-part-answer-start c = search needs
+slice-aggregate-tell-3 : tie.Need-slice-aggregate-tell-3
+slice-aggregate-tell-3 c = search needs
 
-part-answer-end : tie.Need-part-answer-end
-part-answer-end c = rw (c .before .before .n .given .1) at (c .before .before .before .before .before .read-input .ensures)
+slice-aggregate-tell-4 : tie.Need-slice-aggregate-tell-4
+slice-aggregate-tell-4 c = search needs
 
-answer-requires : tie.Need-answer-requires
-answer-requires c κs = search needs
+tell-requires : tie.Need-tell-requires
+tell-requires c κs = (c .before .before .before .before .before .read-input .ensures, search needs)
 
-enum-told : tie.Need-enum-told
-enum-told c = c .match .keys2
+sub-write-all : tie.Need-sub-write-all
+sub-write-all c = search needs
 
-slice-aggregate-write-all : tie.Need-slice-aggregate-write-all
-slice-aggregate-write-all c = search needs
+part-write-all-start : tie.Need-part-write-all-start
+part-write-all-start c = search needs
+
+part-write-all-end : tie.Need-part-write-all-end
+part-write-all-end c = c .before .before .before .before .tell .ensures .within
 
 write-all-requires : tie.Need-write-all-requires
 write-all-requires c κs = search needs
@@ -36,22 +39,19 @@ write-all-requires c κs = search needs
 returns : tie.Need-returns
 returns c = search needs
 
-returns-2 : tie.Need-returns-2
-returns-2 c = search needs
-
 pub main-spec : {M : Type 1} → statement M
 main-spec =
     tie.close
     (tie.spec
     slice-aggregate-read-input
     read-input-requires
-    enum-known-n
-    sub-answer
-    part-answer-start
-    part-answer-end
-    answer-requires
-    enum-told
-    slice-aggregate-write-all
+    slice-aggregate-tell
+    slice-aggregate-tell-2
+    slice-aggregate-tell-3
+    slice-aggregate-tell-4
+    tell-requires
+    sub-write-all
+    part-write-all-start
+    part-write-all-end
     write-all-requires
-    returns
-    returns-2)
+    returns)
