@@ -9,9 +9,9 @@ use native.Mathlib.Decide.{decLt}
 use native.Mathlib.Omega.{arith}
 use lib.Dec.{eqb}
 use lib.Seq.{ext-getD}
-use Rattle.marks.specs.declared.Gaps.{Gaps}
-use Rattle.marks.specs.Absent.{Counts}
-use Rattle.marks.proofs.Absent.{past-all, nth-one}
+use Rattle.inputs.specs.declared.maps.Gaps.{Gaps}
+use Rattle.inputs.specs.Absent.{Counts}
+use Rattle.inputs.proofs.Absent.{past-all, nth-one}
 use Rattle.inputs.specs.declared.maps.Marked.the-variants as marked
 use Rattle.inputs.specs.declared.shapes.Judged.the-variants as judged
 use Rattle.inputs.specs.Shapes.{shapeRules}

@@ -6,7 +6,7 @@ use mathlib.Core.Path.{_≡_}
 use mathlib.Core.Bool.{Bool}
 use mathlib.Core.List.{List}
 use Prim.Native.Nat.{ℕ}
-use Rattle.marks.specs.declared.Gaps.{Gaps}
+use Rattle.inputs.specs.declared.maps.Gaps.{Gaps}
 use Rattle.inputs.specs.declared.maps.Map.{Map}
 use Rattle.inputs.specs.declared.maps.Marked.{Marked}
 use Rattle.inputs.specs.declared.shapes.Judged.{Judged}

@@ -8,21 +8,16 @@
 --   FindsStrays map n r         whether a place at or above n is present
 --   Stray k map                 a place at or above k + 2 is present
 --   TooManyAbsent k map         three or more columns are absent: two different valid stripes agree
---   absentBelow n map           how many places below n are absent
---   NthAbsent n j map t         t is the absent place below n with j absent places below it; 129 where there is none
 use mathlib.Core.Path.{_≡_}
 use mathlib.Core.Bool.{Bool, true, false, cond}
 use mathlib.Core.Logic.{_↔_}
 use mathlib.Core.List.{List, [], _∷_}
 use Prim.Native.Nat.{ℕ, _+_, _≤_, _<_}
 use lib.Dec.{eqb}
-use lib.ListN.{length}
+use lib.ListN.{length, getD}
 use Rattle.parity.specs.Presence.{present, absences}
-use Rattle.marks.specs.declared.Gaps.{Gaps}
-use Rattle.marks.specs.Absent.{PresentFrom, Counts}
-use Rattle.marks.specs.InBytes as marks
-unfoldable pub use Rattle.marks.specs.Absent.{absentBelow}
-pub use Rattle.marks.specs.Absent.{NthAbsent}
+use Rattle.inputs.specs.declared.maps.Gaps.{Gaps}
+use Rattle.inputs.specs.Absent.{PresentFrom, Counts}
 use Rattle.inputs.specs.declared.maps.Map.{Map}
 use Rattle.inputs.specs.declared.maps.Marked.{Marked}
 use Rattle.inputs.specs.declared.maps.Marked.the-variants.{Done, Refused}
@@ -33,11 +28,13 @@ pub record New (r : Map) : Type 0 where
   pub whole : length (r .places) ≡ 129
   pub absent : (t : ℕ) → present (r .places) t ≡ false
 
-abbrev pub OfBytes : List ℕ → Map → Type 0
-OfBytes bytes r = marks.OfBytes bytes (r .places)
+pub record OfBytes (bytes : List ℕ) (r : Map) : Type 0 where
+  pub whole : length (r .places) ≡ 129
+  pub at : (t : ℕ) → t < 129 → present (r .places) t ≡ eqb (getD bytes t 0) 1
 
-abbrev pub AsBytes : Map → List ℕ → Type 0
-AsBytes map bytes = marks.AsBytes (map .places) bytes
+pub record AsBytes (map : Map) (bytes : List ℕ) : Type 0 where
+  pub whole : length bytes ≡ 129
+  pub at : (t : ℕ) → t < 129 → getD bytes t 0 ≡ cond (present (map .places) t) 1 0
 
 pub record Marks (state : Bool) (before : Map) (place : ℕ) (after : Map) : Type 0 where
   pub whole : length (after .places) ≡ 129

@@ -11,7 +11,7 @@ use mathlib.Core.Bool.{Bool}
 use mathlib.Core.List.{List, [], _∷_, _++_}
 use Prim.Native.Nat.{ℕ, _+_}
 use Rattle.parity.specs.Shape.{columnLength, stripeLength, benchLength}
-use Rattle.marks.specs.Absent.{Counts}
+use Rattle.inputs.specs.Absent.{Counts}
 use Rattle.inputs.specs.declared.lent.Given.{Given}
 use Rattle.inputs.specs.declared.lent.Given.the-variants as given
 use Rattle.inputs.specs.declared.shapes.Judged.{Judged}

@@ -1,9 +1,9 @@
 // The tests that the calls share: on the numbers, on what is lent, and on the map.
+use crate::maps::Gaps;
 use crate::maps::Map;
 use crate::shapes::Judged;
 use crate::shapes::Refusal;
 use crate::shapes::judge;
-use marks::Gaps;
 ghost use mathlib.Core.Path.{_≡_};
 ghost use Rattle.inputs.specs.Tests.{JudgesStripe, JudgesLent, JudgesGaps, refusalOf};
 

@@ -17,7 +17,7 @@ use Rattle.parity.specs.Theorems.{AtMostOne, AbsentUnread, OneWrong}
 use Rattle.parity.proofs.Bytes.{stripe-ext}
 use Rattle.parity.proofs.Columns.{column-same}
 use Rattle.parity.proofs.Theorems.{at-most-one, absent-unread, one-wrong, near, few-differ}
-use Rattle.marks.proofs.Absent.{nth-one}
+use Rattle.inputs.proofs.Absent.{nth-one}
 use Rattle.inputs.specs.declared.maps.Map.{Map}
 use Rattle.inputs.specs.Refusals.{pass, Gives}
 use Rattle.inputs.specs.Shapes.{stripeRules}

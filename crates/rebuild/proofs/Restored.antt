@@ -21,9 +21,9 @@ use Rattle.parity.specs.Theorems.{ExactlyOne}
 use Rattle.parity.proofs.Columns.{same-column, column-same}
 use Rattle.parity.proofs.Fits.{rewritten, rewritten-other, fits-valid, valid-fits}
 use Rattle.parity.proofs.Theorems.{exactly-one}
-use Rattle.marks.specs.declared.Gaps.{Gaps}
-use Rattle.marks.specs.Absent.{absentBelow, NthAbsent, Counts}
-use Rattle.marks.proofs.Absent.{absences-below, below-under, others-present}
+use Rattle.inputs.specs.declared.maps.Gaps.{Gaps}
+use Rattle.inputs.specs.Absent.{absentBelow, NthAbsent, Counts}
+use Rattle.inputs.proofs.Absent.{absences-below, below-under, others-present}
 use Rattle.repair.specs.Fills.{Gapped, Filled, Fills}
 use Rattle.inputs.specs.declared.maps.Map.{Map}
 use Rattle.rebuild.specs.declared.restoring.Restored.the-variants.{Refused}

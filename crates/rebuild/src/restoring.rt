@@ -1,10 +1,10 @@
 // Restore.
+use inputs::Gaps;
 use inputs::Given;
 use inputs::Map;
 use inputs::Refusal;
 use inputs::judge_gaps;
 use lines::Grid;
-use marks::Gaps;
 ghost use mathlib.Core.Path.{_≡_};
 ghost use Rattle.rebuild.specs.Restores.{Restores, restoredBy};
 

@@ -17,9 +17,8 @@ use native.Mathlib.Omega.{arith}
 use lib.ListN.{length}
 use Rattle.parity.specs.Shape.{Shape, columnLength, stripeLength, benchLength}
 use Rattle.parity.specs.Presence.{present, absences}
-use Rattle.marks.specs.declared.Gaps.{Gaps}
-use Rattle.marks.specs.Absent.{Counts}
-use Rattle.marks.proofs.Absent.{absences-below, below-under}
+use Rattle.inputs.specs.declared.maps.Gaps.{Gaps}
+use Rattle.inputs.proofs.Absent.{absences-below, below-under}
 use Rattle.inputs.specs.declared.maps.Map.{Map}
 use Rattle.showing.specs.declared.Place.the-variants.{InStripe, InBench, Refused}
 use Rattle.inputs.specs.declared.shapes.Judged.{Judged}
@@ -28,7 +27,8 @@ use Rattle.inputs.specs.declared.shapes.Refusal.{Refusal}
 use Rattle.inputs.specs.declared.shapes.Refusal.the-variants.{NoSuchColumn, Ambiguous}
 use Rattle.inputs.specs.Refusals.{pass, refuse, Rule, Gives}
 use Rattle.inputs.specs.Shapes.{refusalOf}
-use Rattle.inputs.specs.Maps.{Stray, TooManyAbsent, absentBelow}
+use Rattle.inputs.specs.Absent.{absentBelow, Counts}
+use Rattle.inputs.specs.Maps.{Stray, TooManyAbsent}
 use Rattle.inputs.specs.Tests.{stripeTests, lentTests, JudgesLent}
 use Rattle.showing.specs.Shows.{laterRules, showRules, half, Places}
 use Rattle.inputs.proofs.Rules.{gives-first, gives-next, gives-after, passed-first, equal-of}

@@ -19,7 +19,8 @@ use Rattle.showing.specs.declared.Place.the-variants.{InStripe, InBench,
 use Rattle.inputs.specs.declared.shapes.Refusal.the-variants.{StripeLength, BenchLength, StrayColumn, NoSuchColumn, Ambiguous}
 use Rattle.inputs.specs.Refusals.{Verdict, pass, refuse, Rule, Gives}
 use Rattle.inputs.specs.Shapes.{shapeRules}
-use Rattle.inputs.specs.Maps.{Stray, TooManyAbsent, absentBelow}
+use Rattle.inputs.specs.Absent.{absentBelow}
+use Rattle.inputs.specs.Maps.{Stray, TooManyAbsent}
 
 abbrev pub laterRules : ℕ → ℕ → ℕ → Map → List ℕ → List ℕ → ℕ → List Rule
 laterRules m k b map s bench column =

@@ -5,7 +5,7 @@ use lib.ListN.{length}
 use denote.Ref.{now}
 use Prim.Native.Nat.{_+_}
 use Rattle.parity.specs.Shape.{columnLength}
-use Rattle.marks.specs.Absent.{Counts}
+use Rattle.inputs.specs.Absent.{Counts}
 use Rattle.inputs.proofs.Shape.{places-most}
 use Rattle.inputs.proofs.Tests.{Lent, lent-good}
 use Rattle.showing.proofs.Shown.{NotRefused, show-refused, show-7, show-4, show-named, start-most, show-stripe, show-first, show-second}

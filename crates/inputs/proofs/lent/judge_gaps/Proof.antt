@@ -3,8 +3,8 @@ use mathlib.Core.Path.{refl}
 use mathlib.Core.List.{_++_}
 use Prim.Native.Nat.{_+_}
 use native.Mathlib.Omega.{arith}
-use Rattle.marks.specs.Absent.{Counts}
-use Rattle.marks.proofs.Absent.{absences-below}
+use Rattle.inputs.specs.Absent.{Counts}
+use Rattle.inputs.proofs.Absent.{absences-below}
 use Rattle.inputs.specs.Tests.{stripeTests, lentTests, fewTests}
 use Rattle.inputs.proofs.Rules.{gives-first, gives-next, gives-after}
 use Rattle.inputs.proofs.Shape.{places-most}

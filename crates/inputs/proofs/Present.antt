@@ -17,8 +17,8 @@ use borrow.Author.Tests.{eq-eqb, ne-eqb, not-true}
 use Rattle.parity.specs.Sum.{count}
 use Rattle.parity.specs.Presence.{present}
 use Rattle.parity.proofs.Count.{count-under}
-use Rattle.marks.specs.Absent.{PresentFrom}
-use Rattle.marks.proofs.Absent.{past-all}
+use Rattle.inputs.specs.Absent.{PresentFrom}
+use Rattle.inputs.proofs.Absent.{past-all}
 
 pub byte-most : (b : Bool) → boolByte b ≤ 1
 byte-most true = omega arith

@@ -15,7 +15,8 @@ use lib.ListN.{length, getD, set, length-set}
 use lib.Seq.{getD-set-same, getD-set-other}
 use mir.Val.{boolByte}
 use Rattle.parity.specs.Presence.{present}
-use Rattle.marks.specs.InBytes.{OfBytes, AsBytes}
+use Rattle.inputs.specs.declared.maps.Map.{Map}
+use Rattle.inputs.specs.Maps.{OfBytes, AsBytes}
 
 pub record FilledTo {A : Type 0} (d : A) (f : ℕ → A) (n : ℕ) (xs : List A) : Type 0 where
   pub whole : length xs ≡ 129
@@ -37,9 +38,9 @@ as-number true = refl
 as-number false = refl
 
 pub of-bytes : (bytes : List ℕ) (places : List Bool) (n : ℕ) → FilledTo false (λ t. eqb (getD bytes t 0) 1) n places → 129 ≤ n
-    → OfBytes bytes places
+    → OfBytes bytes (record { places = places })
 unfolding present
 of-bytes bytes places n h l = record { whole = h .whole; at = λ t b. h .at t (omega arith) }
 
-pub as-bytes : (places : List Bool) (bytes : List ℕ) (n : ℕ) → FilledTo 0 (λ t. boolByte (present places t)) n bytes → 129 ≤ n → AsBytes places bytes
-as-bytes places bytes n h l = record { whole = h .whole; at = λ t b. h .at t (omega arith) ∙ as-number (present places t) }
+pub as-bytes : (map : Map) (bytes : List ℕ) (n : ℕ) → FilledTo 0 (λ t. boolByte (present (map .places) t)) n bytes → 129 ≤ n → AsBytes map bytes
+as-bytes map bytes n h l = record { whole = h .whole; at = λ t b. h .at t (omega arith) ∙ as-number (present (map .places) t) }

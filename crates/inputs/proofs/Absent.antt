@@ -15,8 +15,8 @@ use lib.ListN.{length, List·getD-eq-default}
 use Rattle.parity.specs.Sum.{count}
 use Rattle.parity.specs.Presence.{present, absences}
 use Rattle.parity.proofs.Count.{count-most, count-under}
-use Rattle.marks.specs.declared.Gaps.{Gaps}
-use Rattle.marks.specs.Absent.{absentBelow, NthAbsent, Counts}
+use Rattle.inputs.specs.declared.maps.Gaps.{Gaps}
+use Rattle.inputs.specs.Absent.{absentBelow, NthAbsent, Counts}
 
 pub past-all : (xs : List Bool) (t : ℕ) → length xs ≤ t → present xs t ≡ false
 unfolding present

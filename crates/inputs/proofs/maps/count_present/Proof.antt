@@ -1,4 +1,4 @@
--- `marks::count_present` meets its contract. The loop's invariant: the places below t are counted.
+-- `inputs::maps::count_present` meets its contract. The loop's invariant: the places below t are counted.
 use mathlib.Core.Path.{_≡_, refl, ap, _∙_}
 use Prim.Native.Nat.{ℕ, _+_, _-_, _≤_}
 use native.Mathlib.Omega.{arith}
@@ -6,10 +6,10 @@ use mir.Val.{boolByte}
 use Rattle.parity.specs.Sum.{count}
 use Rattle.parity.specs.Presence.{present}
 use Rattle.parity.proofs.Count.{count-most}
-use Rattle.marks.proofs.Present.{byte-most, present-more}
+use Rattle.inputs.proofs.Present.{byte-most, present-more}
 use borrow.Author.Needs.{needs}
-use Rattle.marks.proofs.count_present.Statement.{statement}
-use Rattle.marks.proofs.count_present.Tie as tie
+use Rattle.inputs.proofs.maps.count_present.Statement.{statement}
+use Rattle.inputs.proofs.maps.count_present.Tie as tie
 
 abbrev Inv-loop : tie.InvT-loop
 Inv-loop n places c₀ t₀ c t = (t ≤ n) × (c ≡ count t (present places))

@@ -1,13 +1,13 @@
--- `marks::find_gaps` meets its contract. The loop's invariant: the gaps are those below t.
+-- `inputs::maps::find_gaps` meets its contract. The loop's invariant: the gaps are those below t.
 use mathlib.Core.Path.{_≡_, refl}
 use Prim.Native.Nat.{_≤_, _-_}
 use native.Mathlib.Omega.{arith}
 use borrow.Author.Needs.{needs}
 use Rattle.parity.specs.Presence.{present}
-use Rattle.marks.specs.Absent.{Counts}
-use Rattle.marks.proofs.Absent.{below-most, counts-none}
-use Rattle.marks.proofs.find_gaps.Statement.{statement}
-use Rattle.marks.proofs.find_gaps.Tie as tie
+use Rattle.inputs.specs.Absent.{Counts}
+use Rattle.inputs.proofs.Absent.{below-most, counts-none}
+use Rattle.inputs.proofs.maps.find_gaps.Statement.{statement}
+use Rattle.inputs.proofs.maps.find_gaps.Tie as tie
 
 abbrev Inv-loop : tie.InvT-loop
 Inv-loop n places gaps₀ t₀ gaps t = (t ≤ n) × Counts t places gaps

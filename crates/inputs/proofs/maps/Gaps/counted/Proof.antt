@@ -1,10 +1,10 @@
--- `marks::Gaps::counted` meets its contract: a law of `Counts` for each way out.
+-- `inputs::maps::Gaps::counted` meets its contract: a law of `Counts` for each way out.
 use mathlib.Core.Path.{_∙_}
 use native.Mathlib.Omega.{arith}
 use borrow.Author.Needs.{needs}
-use Rattle.marks.proofs.Absent.{counts-present, counts-first, counts-second, counts-more}
-use Rattle.marks.proofs.Gaps.counted.Statement.{statement}
-use Rattle.marks.proofs.Gaps.counted.Tie as tie
+use Rattle.inputs.proofs.Absent.{counts-present, counts-first, counts-second, counts-more}
+use Rattle.inputs.proofs.maps.Gaps.counted.Statement.{statement}
+use Rattle.inputs.proofs.maps.Gaps.counted.Tie as tie
 
 returns : tie.Need-returns
 returns c map n e = counts-present map _ _ n (e ∙ c .if1 .taken)

@@ -9,7 +9,7 @@ use mathlib.Core.List.{List}
 use Prim.Native.Nat.{ℕ, _≤_, _<_}
 use Rattle.parity.specs.Sum.{count}
 use Rattle.parity.specs.Presence.{present}
-use Rattle.marks.specs.declared.Gaps.{Gaps}
+use Rattle.inputs.specs.declared.maps.Gaps.{Gaps}
 
 pub record PresentFrom (n : ℕ) (map : List Bool) : Type 0 where
   pub at : ℕ
