@@ -17,18 +17,18 @@ use Rattle.parity.proofs.Bytes.{stripe-ext}
 use Rattle.parity.proofs.Columns.{same-column, column-same}
 use Rattle.parity.proofs.Count.{few-pass}
 use Rattle.parity.proofs.Theorems.{at-most-one, one-wrong, near}
-use Rattle.rebuild.specs.declared.mending.Mended.{Mended}
-use Rattle.rebuild.specs.declared.mending.Mended.the-variants as mended
-use Rattle.rebuild.specs.declared.restoring.Restored.the-variants as restored
+use Rattle.evenodd.specs.declared.mends.Mended.{Mended}
+use Rattle.evenodd.specs.declared.mends.Mended.the-variants as mended
+use Rattle.evenodd.specs.declared.restores.Restored.the-variants as restored
 use Rattle.inputs.specs.Refusals.{pass}
-use Rattle.rebuild.specs.Restores.{restoreRules, benchRules}
-use Rattle.rebuild.specs.Mends.{mendRules, blameRules, Mends}
+use Rattle.evenodd.specs.Restores.{restoreRules, benchRules}
+use Rattle.evenodd.specs.Mends.{mendRules, blameRules, Mends}
 use Rattle.inputs.specs.Shapes.{stripeRules}
 use Rattle.evenodd.specs.EndToEnd.{RestoreGivesBack, MendGivesBack}
 use Rattle.inputs.proofs.Rules.{passes-not, gives-one, gives-next, gives-after}
 use Rattle.inputs.proofs.Shape.{after-shape}
 use Rattle.inputs.proofs.Stripe.{stripe-given, stripe-passed}
-use Rattle.rebuild.proofs.Determined.{not-one}
+use Rattle.evenodd.proofs.Determined.{not-one}
 
 agrees-back : (m k b : ℕ) (map : List Bool) (s v : List ℕ) → Agrees m k b map s v → Agrees m k b map v s
 agrees-back m k b map s v a = record { at = λ t ht p. column-same m b v s t (λ l i hl hi. sym (same-column m b s v t (a .at t ht p) l i hl hi)) }

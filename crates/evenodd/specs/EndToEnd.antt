@@ -10,16 +10,16 @@ use lib.ListN.{length}
 use Rattle.parity.specs.Shape.{benchLength}
 use Rattle.parity.specs.Stripe.{Stripe}
 use Rattle.parity.specs.Presence.{absences, differs, Agrees}
-use Rattle.coding.specs.declared.encoding.Encoded.the-variants as encoded
+use Rattle.evenodd.specs.declared.encodes.Encoded.the-variants as encoded
 use Rattle.inputs.specs.declared.maps.Map.{Map}
-use Rattle.rebuild.specs.declared.mending.Mended.{Mended}
-use Rattle.rebuild.specs.declared.mending.Mended.the-variants as mended
-use Rattle.rebuild.specs.declared.restoring.Restored.{Restored}
-use Rattle.rebuild.specs.declared.restoring.Restored.the-variants as restored
+use Rattle.evenodd.specs.declared.mends.Mended.{Mended}
+use Rattle.evenodd.specs.declared.mends.Mended.the-variants as mended
+use Rattle.evenodd.specs.declared.restores.Restored.{Restored}
+use Rattle.evenodd.specs.declared.restores.Restored.the-variants as restored
 use Rattle.inputs.specs.Maps.{Stray}
-use Rattle.coding.specs.Encodes.{Encodes}
-use Rattle.rebuild.specs.Restores.{Benched, Restores}
-use Rattle.rebuild.specs.Mends.{Mends}
+use Rattle.evenodd.specs.Encodes.{Encodes}
+use Rattle.evenodd.specs.Restores.{Benched, Restores}
+use Rattle.evenodd.specs.Mends.{Mends}
 
 -- r names the columns, and the bench holds them as they stand in s
 pub record GivenBack (m b : ℕ) (s before after : List ℕ) (r : Restored) : Type 0 where

@@ -4,20 +4,20 @@
 use mathlib.Core.Path.{_≡_}
 use mathlib.Core.List.{List}
 use Prim.Native.Nat.{ℕ}
-use Rattle.coding.specs.declared.checking.Checked.{Checked}
-use Rattle.coding.specs.declared.encoding.Encoded.{Encoded}
+use Rattle.evenodd.specs.declared.checks.Checked.{Checked}
+use Rattle.evenodd.specs.declared.encodes.Encoded.{Encoded}
 use Rattle.inputs.specs.declared.maps.Map.{Map}
-use Rattle.rebuild.specs.declared.mending.Mended.{Mended}
-use Rattle.rebuild.specs.declared.restoring.Restored.{Restored}
-use Rattle.showing.specs.declared.Place.{Place}
+use Rattle.evenodd.specs.declared.mends.Mended.{Mended}
+use Rattle.evenodd.specs.declared.restores.Restored.{Restored}
+use Rattle.evenodd.specs.declared.shows.Place.{Place}
 use Rattle.inputs.specs.Maps.{OfBytes, AsBytes}
-use Rattle.coding.specs.Encodes.{Encodes, encoded}
-use Rattle.coding.specs.Checks.{Checks, rowsOf, diagonalsOf}
-use Rattle.coding.specs.Checks as checks
-use Rattle.rebuild.specs.Restores.{Restores, restored}
-use Rattle.rebuild.specs.Mends.{Mends, columnOf}
-use Rattle.rebuild.specs.Mends as mends
-use Rattle.showing.specs.Shows.{Places, placed}
+use Rattle.evenodd.specs.Encodes.{Encodes, encoded}
+use Rattle.evenodd.specs.Checks.{Checks, rowsOf, diagonalsOf}
+use Rattle.evenodd.specs.Checks as checks
+use Rattle.evenodd.specs.Restores.{Restores, restored}
+use Rattle.evenodd.specs.Mends.{Mends, columnOf}
+use Rattle.evenodd.specs.Mends as mends
+use Rattle.evenodd.specs.Shows.{Places, placed}
 use Rattle.image.specs.declared.answers.Contents.{Contents}
 use Rattle.image.specs.Reads.{ReadInto, answered, mOf, kOf, bOf}
 use Rattle.oarwillow.specs.Results.{status, countOf, firstOf, secondOf, fromBenchOf, startOf, lengthOf}

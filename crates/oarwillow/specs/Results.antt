@@ -3,10 +3,10 @@
 --   countOf, firstOf, secondOf      how many columns were restored and their numbers; 0 129 129 where it is refused
 --   fromBenchOf, startOf, lengthOf  where a column lies: 1 for the bench, and the part; 0 0 0 where it is refused
 use Prim.Native.Nat.{ℕ}
-use Rattle.rebuild.specs.declared.restoring.Restored.{Restored}
-use Rattle.rebuild.specs.declared.restoring.Restored.the-variants as restored
-use Rattle.showing.specs.declared.Place.{Place}
-use Rattle.showing.specs.declared.Place.the-variants as place
+use Rattle.evenodd.specs.declared.restores.Restored.{Restored}
+use Rattle.evenodd.specs.declared.restores.Restored.the-variants as restored
+use Rattle.evenodd.specs.declared.shows.Place.{Place}
+use Rattle.evenodd.specs.declared.shows.Place.the-variants as place
 use Rattle.inputs.specs.Refusals.{Verdict, pass, refuse, numberOf}
 
 abbrev pub status : Verdict → ℕ

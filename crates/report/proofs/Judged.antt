@@ -24,13 +24,13 @@ use Rattle.parity.specs.Sum.{count}
 use Rattle.parity.specs.Presence.{present, absences}
 use Rattle.cells.proofs.Parts.{by-order}
 use Rattle.inputs.specs.declared.maps.Map.{Map}
-use Rattle.rebuild.specs.declared.restoring.Restored.the-variants as restored
+use Rattle.evenodd.specs.declared.restores.Restored.the-variants as restored
 use Rattle.inputs.specs.declared.shapes.Refusal.{Refusal}
 use Rattle.inputs.specs.declared.shapes.Refusal.the-variants as refusal
 use Rattle.inputs.specs.Refusals.{Verdict, pass, refuse, Gives}
 use Rattle.inputs.specs.Absent.{absentBelow}
 use Rattle.inputs.specs.Maps.{New, Stray}
-use Rattle.rebuild.specs.Restores.{Restores}
+use Rattle.evenodd.specs.Restores.{Restores}
 use Rattle.inputs.proofs.Rules.{passes-not, refuse-one, gives-first, gives-next, gives-one, gives-after, gives-passed}
 use Rattle.image.specs.declared.answers.Read.{Read}
 use Rattle.image.specs.declared.answers.Read.the-variants as read

@@ -13,12 +13,12 @@ use lib.Seq.{length-take-le}
 use Rattle.parity.specs.Shape.{columnLength}
 use Rattle.parity.specs.Presence.{present}
 use Rattle.inputs.specs.declared.maps.Map.{Map}
-use Rattle.showing.specs.declared.Place.{Place}
-use Rattle.showing.specs.declared.Place.the-variants.{InStripe, InBench, Refused}
+use Rattle.evenodd.specs.declared.shows.Place.{Place}
+use Rattle.evenodd.specs.declared.shows.Place.the-variants.{InStripe, InBench, Refused}
 use Rattle.inputs.specs.Refusals.{pass, refuse}
-use Rattle.showing.specs.Shows.{showRules, half, Places, PartAt, Shows}
+use Rattle.evenodd.specs.Shows.{showRules, half, Places, PartAt, Shows}
 use Rattle.inputs.proofs.Rules.{passes-not, gives-one}
-use Rattle.showing.proofs.Shown.{passes, stripe-fits, bench-fits}
+use Rattle.evenodd.proofs.Shown.{passes, stripe-fits, bench-fits}
 use Rattle.report.specs.Shown.{columnOf, shown, Held}
 use Rattle.report.specs.Lines.{columnLine, columnLines}
 

@@ -12,17 +12,17 @@ use lib.Seq.{length-take-le}
 use Rattle.parity.specs.Presence.{absences}
 use Rattle.cells.proofs.Parts.{by-order}
 use Rattle.inputs.specs.declared.maps.Map.{Map}
-use Rattle.rebuild.specs.declared.restoring.Restored.{Restored}
-use Rattle.rebuild.specs.declared.restoring.Restored.the-variants as restored
+use Rattle.evenodd.specs.declared.restores.Restored.{Restored}
+use Rattle.evenodd.specs.declared.restores.Restored.the-variants as restored
 use Rattle.inputs.specs.declared.shapes.Refusal.{Refusal}
 use Rattle.inputs.specs.declared.shapes.Refusal.the-variants as refusal
 use Rattle.inputs.specs.Refusals.{numberOf, Verdict, refuse, Gives}
-use Rattle.rebuild.specs.Restores.{restoreRules, Restores}
+use Rattle.evenodd.specs.Restores.{restoreRules, Restores}
 use Rattle.inputs.specs.Determined.{NewOne}
-use Rattle.rebuild.specs.Determined.{RestoresOne}
+use Rattle.evenodd.specs.Determined.{RestoresOne}
 use Rattle.inputs.proofs.Rules.{passes-not, refuse-one, gives-first, gives-next, gives-one}
 use Rattle.inputs.proofs.Determined.{new-one}
-use Rattle.rebuild.proofs.Determined.{restores-one}
+use Rattle.evenodd.proofs.Determined.{restores-one}
 use Rattle.image.specs.declared.answers.Read.the-variants as read
 use Rattle.image.specs.Reads.{contentsRules, Filled, ReadInto}
 use Rattle.image.specs.Determined.{ReadsOne}
@@ -31,8 +31,7 @@ use Rattle.report.specs.declared.writing.Shape.{Shape}
 use Rattle.report.specs.declared.judging.Outcome.{Outcome}
 use Rattle.report.specs.declared.judging.Outcome.the-variants as outcome
 use Rattle.report.specs.declared.judging.Judgement.{Judgement}
-use Rattle.report.specs.Judgements.{Formed, verdictOf, partRules, Benches, JudgesParts, stripeOf, benchOf, formedRules}
-use Rattle.report.specs.Judgements.{InParts, Unwritten, Leaves, JudgesFormed, Rejected}
+use Rattle.report.specs.Judgements.{Formed, verdictOf, partRules, Benches, JudgesParts, stripeOf, benchOf, formedRules, InParts, Unwritten, Leaves, JudgesFormed, Rejected}
 use Rattle.report.specs.Theorems.{JudgesImageOne, ReportsOne, Enough}
 use Rattle.report.proofs.Judged.{by-contents, formed-good, not-stray, read-passes, skip}
 use Rattle.report.proofs.Told.{most}

@@ -19,7 +19,7 @@ use Rattle.inputs.specs.declared.shapes.Refusal.{Refusal}
 use Rattle.inputs.specs.declared.shapes.Refusal.the-variants as refusal
 use Rattle.inputs.specs.Refusals.{Verdict, pass, refuse, Rule, Gives}
 use Rattle.inputs.specs.Maps.{New, TooManyAbsent}
-use Rattle.rebuild.specs.Restores.{RestoredFrom}
+use Rattle.evenodd.specs.Restores.{RestoredFrom}
 use Rattle.image.specs.declared.answers.Read.the-variants as read
 use Rattle.image.specs.declared.answers.Contents.{Contents}
 use Rattle.image.specs.Reads.{contentsRules, ContentsOf, Filled}

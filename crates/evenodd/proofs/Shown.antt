@@ -1,0 +1,160 @@
+-- Laws of show.
+--   NotRefused                   what holds where none of its rules applies
+--   passes, not-refused          its rules pass exactly where none applies
+--   show-refused, show-7, show-4    its refusals, each where those before it do not apply
+--   show-named                   what holds past them
+--   start-most                   the start of a column that is named fits a number
+--   show-stripe, show-first, show-second    where a column lies: in the stripe, in the first and in the second half of the bench
+--   stripe-fits, bench-fits      the part lies within the buffer
+use mathlib.Core.Path.{_≡_, refl, sym, ap, _∙_}
+use mathlib.Core.Logic.{_≢_, by-cases}
+use mathlib.Core.Bool.{Bool, true, false}
+use mathlib.Core.List.{List, [], _∷_, _++_}
+use Prim.Native.Nat.{ℕ, suc, _+_, _*_, _≤_, _<_}
+use native.Mathlib.Nat.{mul-le-mul-right, suc-mul, zero-mul, one-mul}
+use native.Mathlib.Decide.{decLt}
+use native.Mathlib.Omega.{arith}
+use lib.ListN.{length}
+use Rattle.parity.specs.Shape.{Shape, columnLength, stripeLength, benchLength}
+use Rattle.parity.specs.Presence.{present, absences}
+use Rattle.inputs.specs.declared.maps.Gaps.{Gaps}
+use Rattle.inputs.proofs.Absent.{absences-below, below-under}
+use Rattle.inputs.specs.declared.maps.Map.{Map}
+use Rattle.evenodd.specs.declared.shows.Place.the-variants.{InStripe, InBench, Refused}
+use Rattle.inputs.specs.declared.shapes.Judged.{Judged}
+use Rattle.inputs.specs.declared.shapes.Judged.the-variants as judged
+use Rattle.inputs.specs.declared.shapes.Refusal.{Refusal}
+use Rattle.inputs.specs.declared.shapes.Refusal.the-variants.{NoSuchColumn, Ambiguous}
+use Rattle.inputs.specs.Refusals.{pass, refuse, Rule, Gives}
+use Rattle.inputs.specs.Shapes.{refusalOf}
+use Rattle.inputs.specs.Absent.{absentBelow, Counts}
+use Rattle.inputs.specs.Maps.{Stray, TooManyAbsent}
+use Rattle.inputs.specs.Tests.{stripeTests, lentTests, JudgesLent}
+use Rattle.evenodd.specs.Shows.{laterRules, showRules, half, Places}
+use Rattle.inputs.proofs.Rules.{gives-first, gives-next, gives-after, passed-first, equal-of}
+use Rattle.inputs.proofs.Shape.{places-most, parts-most, after-shape, passed-shape}
+use Rattle.inputs.proofs.Tests.{Lent, told-refused}
+
+pub record NotRefused (m k b : ℕ) (map : Map) (s bench : List ℕ) (column : ℕ) : Type 0 where
+  pub shape : Shape m k b
+  pub stripe : length s ≡ stripeLength m k b
+  pub held : length bench ≡ benchLength m b
+  pub clear : Stray k (map .places) → ⊥
+  pub named : column < k + 2
+  pub few : absences k (map .places) ≤ 2
+
+module _ (m k b : ℕ) (map : Map) (s bench : List ℕ) (column : ℕ) where
+  pub passes : NotRefused m k b map s bench column → Gives (showRules m k b map s bench column) pass
+  passes p =
+      after-shape m k b (laterRules m k b map s bench column) pass (p .shape)
+      (gives-next (λ f. f (p .stripe)) (gives-next (λ f. f (p .held)) (gives-next (p .clear) (gives-next (λ h. omega arith) (gives-next (λ h. omega arith) refl)))))
+
+  pub not-refused : Gives (showRules m k b map s bench column) pass → NotRefused m k b map s bench column
+  not-refused g =
+      let (shape, two) = passed-shape m k b (laterRules m k b map s bench column) g in
+      let (stripe, three) = passed-first two in
+      let (held, nine) = passed-first three in
+      let (clear, seven) = passed-first nine in
+      let (named, four) = passed-first seven in
+      let (few, none) = passed-first four in
+      record { shape = shape; stripe = equal-of _ _ stripe; held = equal-of _ _ held; clear = clear; named = omega arith; few = omega arith }
+
+-- show's rules after the tests that it shares with restore
+abbrev lastRules : ℕ → List Bool → ℕ → List Rule
+lastRules k map column =
+    record { condition = k + 2 ≤ column; refusal = NoSuchColumn }
+    ∷ record { condition = TooManyAbsent k map; refusal = Ambiguous }
+    ∷ []
+
+module _ (m k b : ℕ) (map : Map) (s bench : List ℕ) (column : ℕ) where
+  pub show-refused : (j : Judged) {f g : Refusal} → JudgesLent m k b (map .places) (length s) (length bench) j → j ≡ judged.Refused f → g ≡ refusalOf j
+      → Places m k b map s bench column (Refused g)
+  show-refused j h e q = record {
+    told = told-refused (stripeTests m k b (length s) ++ lentTests m k b (map .places) (length bench)) (lastRules k (map .places) column) j (h .told) e q;
+    lies = tt;
+  }
+
+  module _ {c : ℕ} (lent : Lent m k b (length s) (map .places) (length bench) c) where
+    rules : {f : Refusal} → Gives (lastRules k (map .places) column) (refuse f) → Places m k b map s bench column (Refused f)
+    rules g = record {
+      told = gives-after (stripeTests m k b (length s) ++ lentTests m k b (map .places) (length bench)) (lastRules k (map .places) column) _ (lent .tests) g;
+      lies = tt;
+    }
+
+    pub show-7 : k + 2 ≤ column → Places m k b map s bench column (Refused NoSuchColumn)
+    show-7 h = rules (gives-first h)
+
+    module _ (named : column < k + 2) {g : Gaps} (counts : Counts (k + 2) (map .places) g) where
+      pub show-4 : 2 < g .count → Places m k b map s bench column (Refused Ambiguous)
+      show-4 h = rules (gives-next (λ n. omega arith) (gives-first (let e = absences-below k (map .places) in omega (arith, counts .count))))
+
+      pub show-named : g .count ≤ 2 → NotRefused m k b map s bench column
+      show-named h = record {
+        shape = lent .numbers .shape;
+        stripe = lent .numbers .stripe;
+        held = lent .held;
+        clear = lent .clear;
+        named = named;
+        few = let e = absences-below k (map .places) in omega (arith, counts .count);
+      }
+
+-- an absent column that show names has at most one absent column below it
+half-most : {m k b : ℕ} {map : Map} {s bench : List ℕ} {column : ℕ} → NotRefused m k b map s bench column → present (map .places) column ≡ false → half (map .places) column ≤ 1
+unfolding half
+half-most {k = k} {map = map} {column = column} p e =
+    let u = below-under (map .places) column (k + 2) e (p .named) in
+    let q = absences-below k (map .places) in
+    omega arith
+
+-- the lowest absent column has none below it, and any other has one
+module _ {n : ℕ} {map : List Bool} {g : Gaps} (counts : Counts n map g) {column : ℕ} (l : column < n) (e : present map column ≡ false) where
+  lowest : (g .first < n) × (present map (g .first) ≡ false) × (absentBelow (g .first) map ≡ 0)
+  lowest = counts .first .found (let u = below-under map column n e l in omega arith)
+
+  half-first : column ≡ g .first → half map column ≡ 0
+  unfolding half
+  half-first q = rw q (lowest .2)
+
+  half-second : column ≢ g .first → 1 ≤ half map column
+  unfolding half
+  half-second f =
+      let (_, there, none) = lowest in
+      by-cases (decLt column (g .first))
+      (λ h. absurd (let x = below-under map column (g .first) e h in omega arith))
+      (λ h. let x = below-under map (g .first) column there (omega arith) in omega arith)
+
+module _ {m k b : ℕ} {map : Map} {s bench : List ℕ} {column c : ℕ} (p : NotRefused m k b map s bench column) (q : c ≡ columnLength m b) where
+  pub start-most : column * c ≤ 66576384
+  start-most = parts-most (p .shape) q column (let n = places-most (p .shape) in let l = p .named in omega arith)
+
+  pub show-stripe : present (map .places) column ≡ true → Places m k b map s bench column (InStripe (column * c) c)
+  show-stripe e = record { told = passes m k b map s bench column p; lies = (e, ap (λ n. column * n) q, q) }
+
+  module _ {g : Gaps} (counts : Counts (k + 2) (map .places) g) (e : present (map .places) column ≡ false) where
+    pub show-first : column ≡ g .first → Places m k b map s bench column (InBench 0 c)
+    show-first f = record { told = passes m k b map s bench column p; lies = (e, rw (half-first counts (p .named) e f) (sym (zero-mul (columnLength m b))), q) }
+
+    pub show-second : column ≢ g .first → Places m k b map s bench column (InBench c c)
+    show-second f =
+        let one : half (map .places) column ≡ 1 = (let x = half-second counts (p .named) e f in let y = half-most p e in omega arith) in
+        record { told = passes m k b map s bench column p; lies = (e, rw one (q ∙ sym (one-mul (columnLength m b))), q) }
+
+-- the end of part t of n parts of c bytes each
+part-end : (t n c : ℕ) → t < n → t * c + c ≤ n * c
+part-end t n c l = let x = suc-mul t c in let y : suc t * c ≤ n * c = mul-le-mul-right c l in omega arith
+
+module _ {m k b : ℕ} {map : Map} {s bench : List ℕ} {column start n : ℕ} where
+  pub stripe-fits : Places m k b map s bench column (InStripe start n) → start + n ≤ length s
+  unfolding stripeLength
+  stripe-fits h =
+      let p = not-refused m k b map s bench column (h .told) in
+      let (_, at, size) = h .lies in
+      rw (at, size, p .stripe) (part-end column (k + 2) (columnLength m b) (p .named))
+
+  pub bench-fits : Places m k b map s bench column (InBench start n) → start + n ≤ length bench
+  unfolding benchLength
+  bench-fits h =
+      let p = not-refused m k b map s bench column (h .told) in
+      let (absent, at, size) = h .lies in
+      let most = half-most p absent in
+      rw (at, size, p .held) (part-end (half (map .places) column) 2 (columnLength m b) (omega arith))

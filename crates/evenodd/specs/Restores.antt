@@ -1,0 +1,67 @@
+-- What restore answers and leaves in the bench. It speaks of valid stripes that agree, and of nothing else.
+--   restoreRules   its refusals, in order: 1, 2, 3, 9, 4, 5; benchRules: those after the shape's
+--   Benched        the bench holds columns `first` and `second` of v; of n columns restored, halves that hold none are as they were
+--   Restores       how many columns are absent and their numbers, 129 for none, and the bench is that of a valid stripe that agrees
+--   restoredBy     the answer where the gaps were filled, and where they could not be
+use mathlib.Core.Path.{_≡_}
+use mathlib.Core.Logic.{_≢_}
+use mathlib.Core.Bool.{Bool, true, false, cond}
+use mathlib.Core.List.{List, [], _∷_, _++_}
+use Prim.Native.Nat.{ℕ, _+_, _-_, _<_}
+use lib.Dec.{ltb}
+use lib.ListN.{length}
+use Rattle.parity.specs.Shape.{stripeLength, benchLength}
+use Rattle.parity.specs.Stripe.{byte, Valid}
+use Rattle.parity.specs.Presence.{absences, Agrees}
+use Rattle.inputs.specs.declared.maps.Gaps.{Gaps}
+use Rattle.inputs.specs.declared.maps.Map.{Map}
+use Rattle.evenodd.specs.declared.restores.Restored.{Restored}
+use Rattle.evenodd.specs.declared.restores.Restored.the-variants.{Columns, Refused}
+use Rattle.inputs.specs.declared.shapes.Refusal.the-variants.{StripeLength, BenchLength, StrayColumn, Ambiguous, Contradicted}
+use Rattle.inputs.specs.Refusals.{Verdict, pass, refuse, Rule, Gives}
+use Rattle.inputs.specs.Shapes.{shapeRules}
+use Rattle.inputs.specs.Absent.{NthAbsent}
+use Rattle.inputs.specs.Maps.{Stray, TooManyAbsent}
+
+abbrev pub benchRules : ℕ → ℕ → ℕ → Map → List ℕ → List ℕ → List Rule
+benchRules m k b map s bench =
+    record { condition = length s ≢ stripeLength m k b; refusal = StripeLength }
+    ∷ record { condition = length bench ≢ benchLength m b; refusal = BenchLength }
+    ∷ record { condition = Stray k (map .places); refusal = StrayColumn }
+    ∷ record { condition = TooManyAbsent k (map .places); refusal = Ambiguous }
+    ∷ record { condition = (v : List ℕ) → Valid m k b v → Agrees m k b (map .places) s v → ⊥; refusal = Contradicted }
+    ∷ []
+
+abbrev pub restoreRules : ℕ → ℕ → ℕ → Map → List ℕ → List ℕ → List Rule
+restoreRules m k b map s bench = shapeRules m k b ++ benchRules m k b map s bench
+
+abbrev pub restored : Restored → Verdict
+restored (Columns n first second) = pass
+restored (Refused r) = refuse r
+
+pub record Benched (m b n first second : ℕ) (v before after : List ℕ) : Type 0 where
+  pub size : length after ≡ length before
+  pub half0 : (l i : ℕ) → l < b → i < m - 1 → byte m b after l i 0 ≡ cond (ltb 0 n) (byte m b v l i first) (byte m b before l i 0)
+  pub half1 : (l i : ℕ) → l < b → i < m - 1 → byte m b after l i 1 ≡ cond (ltb 1 n) (byte m b v l i second) (byte m b before l i 1)
+
+-- v is a valid stripe that agrees, and the bench is its
+pub record RestoredFrom (m k b : ℕ) (map : List Bool) (s before after : List ℕ) (n first second : ℕ) : Type 0 where
+  pub stripe : List ℕ
+  pub valid : Valid m k b stripe
+  pub agrees : Agrees m k b map s stripe
+  pub counted : n ≡ absences k map
+  pub lowest : NthAbsent (k + 2) 0 map first
+  pub other : NthAbsent (k + 2) 1 map second
+  pub bench : Benched m b n first second stripe before after
+
+abbrev pub Left : ℕ → ℕ → ℕ → List Bool → List ℕ → List ℕ → List ℕ → Restored → Type 0
+Left m k b map s before after (Columns n first second) = RestoredFrom m k b map s before after n first second
+Left m k b map s before after (Refused r) = after ≡ before
+
+pub record Restores (m k b : ℕ) (map : Map) (s before after : List ℕ) (r : Restored) : Type 0 where
+  pub told : Gives (restoreRules m k b map s before) (restored r)
+  pub left : Left m k b (map .places) s before after r
+
+abbrev pub restoredBy : Gaps → Bool → Restored
+restoredBy gaps true = Columns (gaps .count) (gaps .first) (gaps .second)
+restoredBy gaps false = Refused Contradicted

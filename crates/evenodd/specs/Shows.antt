@@ -1,0 +1,67 @@
+-- What show says and hands out.
+--   showRules          its refusals, in order: 1, 2, 3, 9, 7, 4; laterRules: those after the shape's
+--   half map t         the half of the bench where restore puts absent column t: 0 for the lowest absent column, 1 for the other
+--   PartOf x at n r    r is the n bytes of the lent buffer x from `at` on, where they lie: the same block, the place in it, the bytes. No copy.
+--   Places             what the question "where" answers
+--   Shows              what show hands out; refused, it is an empty part at the start of the stripe
+use mathlib.Core.Path.{_≡_}
+use mathlib.Core.Logic.{_≢_}
+use mathlib.Core.Bool.{Bool, true, false}
+use mathlib.Core.List.{List, [], _∷_, _++_}
+use Prim.Native.Nat.{ℕ, _+_, _*_, _≤_}
+use denote.Ref.{RefT, now}
+use lib.ListN.{length, take, drop}
+use Rattle.parity.specs.Shape.{columnLength, stripeLength, benchLength}
+use Rattle.parity.specs.Presence.{present}
+use Rattle.inputs.specs.declared.maps.Map.{Map}
+use Rattle.evenodd.specs.declared.shows.Place.{Place}
+use Rattle.evenodd.specs.declared.shows.Place.the-variants.{InStripe, InBench, Refused}
+use Rattle.inputs.specs.declared.shapes.Refusal.the-variants.{StripeLength, BenchLength, StrayColumn, NoSuchColumn, Ambiguous}
+use Rattle.inputs.specs.Refusals.{Verdict, pass, refuse, Rule, Gives}
+use Rattle.inputs.specs.Shapes.{shapeRules}
+use Rattle.inputs.specs.Absent.{absentBelow}
+use Rattle.inputs.specs.Maps.{Stray, TooManyAbsent}
+
+abbrev pub laterRules : ℕ → ℕ → ℕ → Map → List ℕ → List ℕ → ℕ → List Rule
+laterRules m k b map s bench column =
+    record { condition = length s ≢ stripeLength m k b; refusal = StripeLength }
+    ∷ record { condition = length bench ≢ benchLength m b; refusal = BenchLength }
+    ∷ record { condition = Stray k (map .places); refusal = StrayColumn }
+    ∷ record { condition = k + 2 ≤ column; refusal = NoSuchColumn }
+    ∷ record { condition = TooManyAbsent k (map .places); refusal = Ambiguous }
+    ∷ []
+
+abbrev pub showRules : ℕ → ℕ → ℕ → Map → List ℕ → List ℕ → ℕ → List Rule
+showRules m k b map s bench column = shapeRules m k b ++ laterRules m k b map s bench column
+
+unfoldable pub half : List Bool → ℕ → ℕ
+half map t = absentBelow t map
+
+abbrev pub placed : Place → Verdict
+placed (InStripe start n) = pass
+placed (InBench start n) = pass
+placed (Refused r) = refuse r
+
+abbrev pub Lies : ℕ → ℕ → List Bool → ℕ → Place → Type 0
+Lies m b map column (InStripe start n) = (present map column ≡ true) × (start ≡ column * columnLength m b) × (n ≡ columnLength m b)
+Lies m b map column (InBench start n) = (present map column ≡ false) × (start ≡ half map column * columnLength m b) × (n ≡ columnLength m b)
+Lies m b map column (Refused r) = Unit {0}
+
+pub record Places (m k b : ℕ) (map : Map) (s bench : List ℕ) (column : ℕ) (r : Place) : Type 0 where
+  pub told : Gives (showRules m k b map s bench column) (placed r)
+  pub lies : Lies m b (map .places) column r
+
+pub record PartOf (x : RefT (List ℕ)) (at n : ℕ) (r : RefT (List ℕ)) : Type 0 where
+  pub block : r .ptr .0 ≡ x .ptr .0
+  pub place : r .ptr .1 ≡ at + x .ptr .1
+  pub bytes : now r ≡ take n (drop at (now x))
+
+abbrev pub PartAt : RefT (List ℕ) → RefT (List ℕ) → Place → RefT (List ℕ) → Type 0
+PartAt s bench (InStripe start n) r = PartOf s start n r
+PartAt s bench (InBench start n) r = PartOf bench start n r
+PartAt s bench (Refused f) r = PartOf s 0 0 r
+
+pub record Shows (m k b : ℕ) (map : Map) (s bench : RefT (List ℕ)) (column : ℕ) (r : RefT (List ℕ)) : Type 0 where
+  pub answer : Place
+  pub places : Places m k b map (now s) (now bench) column answer
+  pub part : PartAt s bench answer r
