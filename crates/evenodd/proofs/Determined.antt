@@ -3,7 +3,7 @@
 use mathlib.Core.Path.{_≡_, refl, sym, ap, ap₂, _∙_}
 use mathlib.Core.Logic.{_≢_, by-cases, _↔_}
 use mathlib.Core.Bool.{false, true≢false}
-use mathlib.Core.List.{List}
+use mathlib.Core.List.{List, [], _∷_}
 use Prim.Native.Nat.{ℕ, _+_, _<_, _≤_}
 use native.Mathlib.Decide.{decLt}
 use native.Mathlib.Omega.{arith}
@@ -13,8 +13,8 @@ use Rattle.parity.specs.Presence.{differs, absences, DifferIn, Agrees}
 use Rattle.parity.proofs.Columns.{same-column, column-same}
 use Rattle.parity.proofs.Stripes.{stripe-determined}
 use Rattle.parity.proofs.Theorems.{frame, served, at-most-one, absent-unread, one-wrong, near, few-differ}
-use Rattle.inputs.specs.Shapes.{stripeRules}
-use Rattle.inputs.proofs.Rules.{passes-not, refuse-one, gives-one, equal-of, passed-first, gives-passed, Alike, gives-alike}
+use Rattle.inputs.specs.Rules.{tooManyAbsent, contradicted, unmendable, stripeRules, lentRules, gapRules, mendRules, restoreRules, showRules}
+use Rattle.inputs.proofs.Rules.{passes-not, refuse-one, gives-one, passed-first, gives-passed, Alike, gives-alike}
 use Rattle.inputs.proofs.Stripe.{stripe-given}
 use Rattle.evenodd.specs.declared.checks.Checked.the-variants as checked
 use Rattle.evenodd.specs.declared.encodes.Encoded.the-variants as encoded
@@ -27,16 +27,15 @@ use Rattle.parity.proofs.Bytes.{stripe-ext}
 use Rattle.inputs.proofs.Absent.{nth-one}
 use Rattle.inputs.specs.declared.maps.Map.{Map}
 use Rattle.inputs.specs.Refusals.{pass, Gives, Verdict}
-use Rattle.inputs.proofs.Shape.{passed-shape}
+use Rattle.inputs.proofs.Tests.{lent-given}
 use Rattle.evenodd.specs.declared.mends.Mended.the-variants as mended
 use Rattle.evenodd.specs.declared.restores.Restored.{Restored}
 use Rattle.evenodd.specs.declared.restores.Restored.the-variants as restored
-use Rattle.evenodd.specs.Restores.{restoreRules, benchRules, Benched, Left}
-use Rattle.evenodd.specs.Mends.{mendRules, blameRules}
+use Rattle.evenodd.specs.Restores.{Benched, Left}
 use denote.Ref.{RefT, now}
 use Rattle.evenodd.specs.declared.shows.Place.{Place}
 use Rattle.evenodd.specs.declared.shows.Place.the-variants.{InStripe, InBench, Refused}
-use Rattle.evenodd.specs.Shows.{showRules, Places, PartOf, PartAt}
+use Rattle.evenodd.specs.Shows.{Places, PartOf, PartAt}
 
 -- ---- encode and check
 
@@ -54,41 +53,39 @@ data-determine m k b h s x y vx vy dx dy =
 pub encodes-one : EncodesOne
 unfolding EncodesOne
 encodes-one m k b s x y encoded.Done encoded.Done p q =
-    (refl, data-determine m k b (stripe-given m k b s (p .told) .0) s x y (p .written .0) (q .written .0) (p .written .1) (q .written .1))
-encodes-one m k b s x y encoded.Done (encoded.Refused g) p q = absurd (passes-not g (gives-one (stripeRules m k b s) _ _ (p .told) (q .told)))
-encodes-one m k b s x y (encoded.Refused f) encoded.Done p q = absurd (passes-not f (gives-one (stripeRules m k b s) _ _ (q .told) (p .told)))
+    (refl, data-determine m k b (stripe-given m k b (length s) (p .told) .0) s x y (p .written .0) (q .written .0) (p .written .1) (q .written .1))
+encodes-one m k b s x y encoded.Done (encoded.Refused g) p q = absurd (passes-not g (gives-one (stripeRules m k b (length s)) _ _ (p .told) (q .told)))
+encodes-one m k b s x y (encoded.Refused f) encoded.Done p q = absurd (passes-not f (gives-one (stripeRules m k b (length s)) _ _ (q .told) (p .told)))
 encodes-one m k b s x y (encoded.Refused f) (encoded.Refused g) p q =
-    (ap encoded.Refused (refuse-one f g (gives-one (stripeRules m k b s) _ _ (p .told) (q .told))), p .written ∙ sym (q .written))
+    (ap encoded.Refused (refuse-one f g (gives-one (stripeRules m k b (length s)) _ _ (p .told) (q .told))), p .written ∙ sym (q .written))
 
 pub checks-one : ChecksOne
 unfolding ChecksOne
 checks-one m k b s checked.Intact checked.Intact p q = refl
 checks-one m k b s checked.Intact (checked.Broken x y) p q = absurd (q .found .0 (p .found))
-checks-one m k b s checked.Intact (checked.Refused g) p q = absurd (passes-not g (gives-one (stripeRules m k b s) _ _ (p .told) (q .told)))
+checks-one m k b s checked.Intact (checked.Refused g) p q = absurd (passes-not g (gives-one (stripeRules m k b (length s)) _ _ (p .told) (q .told)))
 checks-one m k b s (checked.Broken x y) checked.Intact p q = absurd (p .found .0 (q .found))
 checks-one m k b s (checked.Broken x y) (checked.Broken u v) p q = ap₂ checked.Broken (p .found .1 ∙ sym (q .found .1)) (p .found .2 ∙ sym (q .found .2))
-checks-one m k b s (checked.Broken x y) (checked.Refused g) p q = absurd (passes-not g (gives-one (stripeRules m k b s) _ _ (p .told) (q .told)))
-checks-one m k b s (checked.Refused f) checked.Intact p q = absurd (passes-not f (gives-one (stripeRules m k b s) _ _ (q .told) (p .told)))
-checks-one m k b s (checked.Refused f) (checked.Broken u v) p q = absurd (passes-not f (gives-one (stripeRules m k b s) _ _ (q .told) (p .told)))
-checks-one m k b s (checked.Refused f) (checked.Refused g) p q = ap checked.Refused (refuse-one f g (gives-one (stripeRules m k b s) _ _ (p .told) (q .told)))
+checks-one m k b s (checked.Broken x y) (checked.Refused g) p q = absurd (passes-not g (gives-one (stripeRules m k b (length s)) _ _ (p .told) (q .told)))
+checks-one m k b s (checked.Refused f) checked.Intact p q = absurd (passes-not f (gives-one (stripeRules m k b (length s)) _ _ (q .told) (p .told)))
+checks-one m k b s (checked.Refused f) (checked.Broken u v) p q = absurd (passes-not f (gives-one (stripeRules m k b (length s)) _ _ (q .told) (p .told)))
+checks-one m k b s (checked.Refused f) (checked.Refused g) p q = ap checked.Refused (refuse-one f g (gives-one (stripeRules m k b (length s)) _ _ (p .told) (q .told)))
 
 -- ---- restore
 
--- what restore's rules say where they pass
-pub record Passed (m k b : ℕ) (map : Map) (s bench : List ℕ) : Type 0 where
+-- where restore's rules pass
+pub record Passed (m k b : ℕ) (map : Map) (bench : List ℕ) : Type 0 where
   pub shape : Shape m k b
   pub held : length bench ≡ benchLength m b
   pub few : absences k (map .places) ≤ 2
 
-pub restore-passed : (m k b : ℕ) (map : Map) (s bench : List ℕ) → Gives (restoreRules m k b map s bench) pass → Passed m k b map s bench
+pub restore-passed : (m k b : ℕ) (map : Map) (s bench : List ℕ) → Gives (restoreRules m k b map s (length bench)) pass → Passed m k b map bench
 restore-passed m k b map s bench g =
-    let (shape, rest) = passed-shape m k b (benchRules m k b map s bench) g in
-    let (_, second) = passed-first rest in
-    let (held, third) = passed-first second in
-    let (_, fourth) = passed-first third in
-    let (few, _) = passed-first fourth in
-    let most : absences k (map .places) ≤ 2 = by-cases (decLt 2 (absences k (map .places))) (λ l. absurd (few l)) (λ l. omega arith) in
-    record { shape = shape; held = equal-of _ _ held; few = most }
+    let (gaps, _) = gives-passed (gapRules m k b map (length s) (length bench)) (contradicted m k b map s ∷ []) g in
+    let (lent, many) = gives-passed (lentRules m k b map (length s) (length bench)) (tooManyAbsent k map ∷ []) gaps in
+    let fits = lent-given m k b (length s) map (length bench) lent in
+    let (few, _) = passed-first many in
+    record { shape = fits .shape; held = fits .held; few = omega arith }
 
 -- two benches of one valid stripe are one
 benched-one : (m b n first second : ℕ) (v before x y : List ℕ) → 1 < m → 0 < b → length before ≡ benchLength m b
@@ -112,19 +109,19 @@ restores-one m k b map s bench x y (restored.Columns n f g) (restored.Columns n�
     let eg : g ≡ g′ = nth-one (k + 2) 1 (map .places) g g′ (u .other) (v .other) in
     let es : u .stripe ≡ v .stripe = at-most-one m k b h (map .places) (w .few) s (u .stripe) (v .stripe) (u .valid) (v .valid) (u .agrees) (v .agrees) in
     (cc, benched-one m b n f g (u .stripe) bench x y (h .value .prime .big) (h .filled) (w .held) (u .bench) (rw (en, ef, eg, es) (v .bench)))
-restores-one m k b map s bench x y (restored.Columns n f g) (restored.Refused r) p q = absurd (passes-not r (gives-one (restoreRules m k b map s bench) _ _ (p .told) (q .told)))
-restores-one m k b map s bench x y (restored.Refused r) (restored.Columns n f g) p q = absurd (passes-not r (gives-one (restoreRules m k b map s bench) _ _ (q .told) (p .told)))
+restores-one m k b map s bench x y (restored.Columns n f g) (restored.Refused r) p q = absurd (passes-not r (gives-one (restoreRules m k b map s (length bench)) _ _ (p .told) (q .told)))
+restores-one m k b map s bench x y (restored.Refused r) (restored.Columns n f g) p q = absurd (passes-not r (gives-one (restoreRules m k b map s (length bench)) _ _ (q .told) (p .told)))
 restores-one m k b map s bench x y (restored.Refused r) (restored.Refused r′) p q =
-    (ap restored.Refused (refuse-one r r′ (gives-one (restoreRules m k b map s bench) _ _ (p .told) (q .told))), p .left ∙ sym (q .left))
+    (ap restored.Refused (refuse-one r r′ (gives-one (restoreRules m k b map s (length bench)) _ _ (p .told) (q .told))), p .left ∙ sym (q .left))
 
 pub restores-unread : RestoresUnread
 unfolding RestoresUnread AbsentUnread
-restores-unread m k b map s other bench x r p e a = record { told = gives-alike (restoreRules m k b map s bench) (restoreRules m k b map other bench) _ same (p .told); left = left r (p .left) }
+restores-unread m k b map s other bench x r p e a = record { told = gives-alike (restoreRules m k b map s (length bench)) (restoreRules m k b map other (length bench)) _ same (p .told); left = left r (p .left) }
   where
     agrees : (v : List ℕ) → Agrees m k b (map .places) s v ↔ Agrees m k b (map .places) other v
     agrees = absent-unread m k b (map .places) s other a
 
-    same : Alike (restoreRules m k b map s bench) (restoreRules m k b map other bench)
+    same : Alike (restoreRules m k b map s (length bench)) (restoreRules m k b map other (length bench))
     same = (
       (λ c. c, λ c. c),
       refl,
@@ -162,7 +159,7 @@ restores-unread m k b map s other bench x r p e a = record { told = gives-alike 
 -- ---- mend
 
 pub mend-shape : (m k b : ℕ) (s : List ℕ) → Gives (mendRules m k b s) pass → Shape m k b
-mend-shape m k b s g = stripe-given m k b s (gives-passed (stripeRules m k b s) (blameRules m k b s) g .0) .0
+mend-shape m k b s g = stripe-given m k b (length s) (gives-passed (stripeRules m k b (length s)) (unmendable m k b s ∷ []) g .0) .0
 
 -- a valid stripe does not differ from a valid one in exactly one column
 pub not-one : (m k b : ℕ) → Shape m k b → (s x : List ℕ) (u : ℕ) → u < k + 2 → Valid m k b s → Valid m k b x → DifferIn m k b (eqb u) s x → ⊥
@@ -193,8 +190,8 @@ pub places-one : PlacesOne
 unfolding PlacesOne
 places-one m k b map s bench column r q x y = go r q x y
   where
-    answered : (v w : Verdict) → Gives (showRules m k b map s bench column) v → Gives (showRules m k b map s bench column) w → v ≡ w
-    answered v w = gives-one (showRules m k b map s bench column) v w
+    answered : (v w : Verdict) → Gives (showRules m k b map (length s) (length bench) column) v → Gives (showRules m k b map (length s) (length bench) column) w → v ≡ w
+    answered v w = gives-one (showRules m k b map (length s) (length bench) column) v w
 
     go : (r q : Place) → Places m k b map s bench column r → Places m k b map s bench column q → r ≡ q
     go (InStripe a n) (InStripe c l) x y = ap₂ InStripe (x .lies .1 ∙ sym (y .lies .1)) (x .lies .2 ∙ sym (y .lies .2))

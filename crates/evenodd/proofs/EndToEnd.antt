@@ -2,7 +2,7 @@
 use mathlib.Core.Path.{_≡_, refl, sym, ap, _∙_}
 use mathlib.Core.Logic.{_≢_, by-cases}
 use mathlib.Core.Bool.{Bool, true, false}
-use mathlib.Core.List.{List}
+use mathlib.Core.List.{List, [], _∷_}
 use Prim.Native.Nat.{ℕ, _+_, _≤_}
 use native.Mathlib.Decide.{ℕ-discrete}
 use native.Mathlib.Omega.{arith}
@@ -21,13 +21,12 @@ use Rattle.evenodd.specs.declared.mends.Mended.{Mended}
 use Rattle.evenodd.specs.declared.mends.Mended.the-variants as mended
 use Rattle.evenodd.specs.declared.restores.Restored.the-variants as restored
 use Rattle.inputs.specs.Refusals.{pass}
-use Rattle.evenodd.specs.Restores.{restoreRules, benchRules}
-use Rattle.evenodd.specs.Mends.{mendRules, blameRules, Mends}
-use Rattle.inputs.specs.Shapes.{stripeRules}
+use Rattle.inputs.specs.Rules.{contradicted, unmendable, stripeRules, gapRules, mendRules, restoreRules}
+use Rattle.evenodd.specs.Mends.{Mends}
 use Rattle.evenodd.specs.EndToEnd.{RestoreGivesBack, MendGivesBack}
 use Rattle.inputs.proofs.Rules.{passes-not, gives-one, gives-next, gives-after}
-use Rattle.inputs.proofs.Shape.{after-shape}
 use Rattle.inputs.proofs.Stripe.{stripe-given, stripe-passed}
+use Rattle.inputs.proofs.Tests.{gaps-passed}
 use Rattle.evenodd.proofs.Determined.{not-one}
 
 agrees-back : (m k b : ℕ) (map : List Bool) (s v : List ℕ) → Agrees m k b map s v → Agrees m k b map v s
@@ -36,17 +35,17 @@ agrees-back m k b map s v a = record { at = λ t ht p. column-same m b v s t (λ
 pub restore-gives-back : RestoreGivesBack
 unfolding RestoreGivesBack AtMostOne
 restore-gives-back m k b map fresh s lost before after (restored.Columns n f g) enc same agrees held clear few p =
-    let (h, _) = stripe-given m k b fresh (enc .told) in
+    let (h, _) = stripe-given m k b (length fresh) (enc .told) in
     let u = p .left in
     let e : u .stripe ≡ s = at-most-one m k b h (map .places) few lost (u .stripe) s (u .valid) (enc .written .0) (u .agrees) (agrees-back m k b (map .places) s lost agrees) in
     record { count = n; first = f; second = g; answer = refl; bench = rw e at (u .bench) }
 restore-gives-back m k b map fresh s lost before after (restored.Refused r) enc same agrees held clear few p =
-    let (h, _) = stripe-given m k b fresh (enc .told) in
+    let (h, _) = stripe-given m k b (length fresh) (enc .told) in
     let size : length lost ≡ _ = same ∙ enc .written .0 .stripe .whole in
-    absurd (passes-not r (gives-one (restoreRules m k b map lost before) _ _
-    (after-shape m k b (benchRules m k b map lost before) pass h
-    (gives-next (λ c. c size) (gives-next (λ c. c held) (gives-next clear (gives-next (λ c. omega arith)
-    (gives-next (λ c. c s (enc .written .0) (agrees-back m k b (map .places) s lost agrees)) refl))))))
+    absurd (passes-not r (gives-one (restoreRules m k b map lost (length before)) _ _
+    (gives-after (gapRules m k b map (length lost) (length before)) (contradicted m k b map lost ∷ []) pass
+    (gaps-passed m k b (length lost) map (length before) (record { shape = h; stripe = size; held = held; clear = clear }) few)
+    (gives-next (λ c. c s (enc .written .0) (agrees-back m k b (map .places) s lost agrees)) refl))
     (p .told)))
 
 pub mend-gives-back : MendGivesBack
@@ -54,7 +53,7 @@ unfolding MendGivesBack OneWrong differing
 mend-gives-back m k b u fresh s wrong after r enc st hu only p = go r p
   where
     h : Shape m k b
-    h = stripe-given m k b fresh (enc .told) .0
+    h = stripe-given m k b (length fresh) (enc .told) .0
 
     valid : Valid m k b s
     valid = enc .written .0
@@ -85,5 +84,5 @@ mend-gives-back m k b u fresh s wrong after r enc st hu only p = go r p
         pick false e = absurd (not-one m k b h wrong after v (p .rewritten .0) (rw (same e) valid) (p .rewritten .1) (p .rewritten .2))
     go (mended.Refused f) p =
         absurd (passes-not f (gives-one (mendRules m k b wrong) _ _
-        (gives-after (stripeRules m k b wrong) (blameRules m k b wrong) pass (stripe-passed m k b wrong h (st .whole)) (gives-next (λ c. c s valid few) refl))
+        (gives-after (stripeRules m k b (length wrong)) (unmendable m k b wrong ∷ []) pass (stripe-passed m k b (length wrong) h (st .whole)) (gives-next (λ c. c s valid few) refl))
         (p .told)))

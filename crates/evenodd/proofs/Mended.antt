@@ -1,12 +1,12 @@
 -- Laws of mend: which column can be the wrong one.
 --   mended-intact     no lane breaks: the stripe is valid
 --   mended-column     the columns other than u fit, and column u was rewritten: the stripe is valid, and differed in exactly that column
---   unmendable        no column's others fit: no valid stripe differs in at most one column
+--   none-near         no column's others fit: no valid stripe differs in at most one column
 --   mend-answer       what mend says
 use mathlib.Core.Path.{_≡_, refl, sym, ap, _∙_}
 use mathlib.Core.Logic.{_≢_, by-cases}
 use mathlib.Core.Bool.{Bool, true, false}
-use mathlib.Core.List.{List}
+use mathlib.Core.List.{List, [], _∷_}
 use Prim.Native.Nat.{ℕ, _+_, _-_, _≤_, _<_}
 use native.Mathlib.Decide.{ℕ-discrete}
 use native.Mathlib.Omega.{arith}
@@ -28,16 +28,16 @@ use Rattle.blame.specs.declared.Suspect.{Suspect}
 use Rattle.blame.specs.declared.Suspect.the-variants.{Nothing, Column, Nobody}
 use Rattle.amend.specs.Patches.{Patches}
 use Rattle.inputs.specs.Refusals.{Verdict, Gives}
-use Rattle.inputs.specs.Shapes.{stripeRules}
-use Rattle.evenodd.specs.Mends.{blameRules, mendRules, Mends, mendedBy}
+use Rattle.inputs.specs.Rules.{unmendable, stripeRules, mendRules}
+use Rattle.evenodd.specs.Mends.{Mends, mendedBy}
 use Rattle.inputs.proofs.Rules.{gives-first, gives-next, gives-after}
 use Rattle.inputs.proofs.Stripe.{stripe-passed}
 
 module _ (m k b : ℕ) (h : Shape m k b) (s : List ℕ) where
   -- what can't be fitted with any column left out can't be mended
-  pub unmendable : ((x : ℕ) → x < k + 2 → FitsBut m k b x s → ⊥) → (v : List ℕ) → Valid m k b v → differing m k b s v ≤ 1 → ⊥
+  pub none-near : ((x : ℕ) → x < k + 2 → FitsBut m k b x s → ⊥) → (v : List ℕ) → Valid m k b v → differing m k b s v ≤ 1 → ⊥
   unfolding differing
-  unmendable none v vv few =
+  none-near none v vv few =
       let (x, hx, rest) = one-pass (k + 2) (differs m b s v) (omega arith) few in
       none x hx (valid-fits m k b x s (h .few) v vv (λ l i t hl hi ht ne. same-column m b s v t (rest t ht ne) l i hl hi))
 
@@ -82,8 +82,8 @@ module _ (m k b : ℕ) (h : Shape m k b) (s : List ℕ) where
 -- ---- what mend says
 
 module _ (m k b : ℕ) (s after : List ℕ) (h : Shape m k b) (st : Stripe m k b s) where
-  rules : {v : Verdict} → Gives (blameRules m k b s) v → Gives (mendRules m k b s) v
-  rules g = gives-after (stripeRules m k b s) (blameRules m k b s) _ (stripe-passed m k b s h (st .whole)) g
+  rules : {v : Verdict} → Gives (unmendable m k b s ∷ []) v → Gives (mendRules m k b s) v
+  rules g = gives-after (stripeRules m k b (length s)) (unmendable m k b s ∷ []) _ (stripe-passed m k b (length s) h (st .whole)) g
 
   pub mend-answer : (r : Suspect) → Patches m k b s after r → Mends m k b s after (mendedBy r)
   unfolding differing
@@ -93,4 +93,4 @@ module _ (m k b : ℕ) (s after : List ℕ) (h : Shape m k b) (st : Stripe m k b
   mend-answer (Column u) f =
       let r = mended-column m k b h s st u (f .inside) (f .fits) (f .broken) after (f .rewrote .size) (f .rewrote .inside) (f .rewrote .other) in
       record { told = rules (gives-next (λ c. c after (r .1) (few-differ m k b u s after (r .2))) refl); rewritten = r }
-  mend-answer Nobody f = record { told = rules (gives-first (unmendable m k b h s (f .0))); rewritten = f .1 }
+  mend-answer Nobody f = record { told = rules (gives-first (none-near m k b h s (f .0))); rewritten = f .1 }

@@ -2,12 +2,12 @@
 --   restored-none     none absent: the columns fit, and nothing is written
 --   restored-one      one absent: the others fit
 --   restored-two      two absent: exactly one valid stripe agrees
---   contradicted      the columns other than the absent one, if there is one, don't fit: no valid stripe agrees
+--   none-agrees       the columns other than the absent one, if there is one, don't fit: no valid stripe agrees
 --   restore-…         what restore says on each way out, and what it asks for
 use mathlib.Core.Path.{_≡_, refl, sym, ap, _∙_}
 use mathlib.Core.Logic.{_≢_, by-cases}
 use mathlib.Core.Bool.{Bool, true, false, cond, true≢false}
-use mathlib.Core.List.{List, [], _∷_, _++_}
+use mathlib.Core.List.{List, [], _∷_}
 use Prim.Native.Nat.{ℕ, _+_, _-_, _≤_, _<_}
 use native.Mathlib.Decide.{ℕ-discrete, decLt}
 use native.Mathlib.Omega.{arith}
@@ -30,10 +30,10 @@ use Rattle.evenodd.specs.declared.restores.Restored.the-variants.{Refuse
 use Rattle.inputs.specs.declared.lent.Given.{Given}
 use Rattle.inputs.specs.declared.lent.Given.the-variants as given
 use Rattle.inputs.specs.declared.shapes.Refusal.{Refusal}
-use Rattle.inputs.specs.declared.shapes.Refusal.the-variants.{Contradicted}
-use Rattle.inputs.specs.Refusals.{Verdict, Rule, Gives}
-use Rattle.inputs.specs.Tests.{stripeTests, lentTests, fewTests, JudgesGaps, refusalOf}
-use Rattle.evenodd.specs.Restores.{restoreRules, Benched, RestoredFrom, Restores, restoredBy}
+use Rattle.inputs.specs.Refusals.{Verdict, Gives}
+use Rattle.inputs.specs.Rules.{contradicted, gapRules, restoreRules}
+use Rattle.inputs.specs.Tests.{JudgesGaps, refusalOf}
+use Rattle.evenodd.specs.Restores.{Benched, RestoredFrom, Restores, restoredBy}
 use Rattle.inputs.proofs.Rules.{gives-first, gives-next, gives-after}
 use Rattle.inputs.proofs.Tests.{FewAbsent, gaps-refused}
 
@@ -50,8 +50,8 @@ module _ (m k b : ℕ) (h : Shape m k b) (map : List Bool) (s : List ℕ) (st : 
   same-but : n ≤ 1 → (v : List ℕ) → Agrees m k b map s v → (l i t : ℕ) → l < b → i < m - 1 → t < k + 2 → t ≢ first → byte m b s l i t ≡ byte m b v l i t
   same-but few v a l i t hl hi ht ne = same-column m b s v t (a .at t ht (but-first few t ht ne)) l i hl hi
 
-  pub contradicted : n ≤ 1 → (FitsBut m k b first s → ⊥) → (v : List ℕ) → Valid m k b v → Agrees m k b map s v → ⊥
-  contradicted few no-fit v vv a = no-fit (valid-fits m k b first s (h .few) v vv (same-but few v a))
+  pub none-agrees : n ≤ 1 → (FitsBut m k b first s → ⊥) → (v : List ℕ) → Valid m k b v → Agrees m k b map s v → ⊥
+  none-agrees few no-fit v vv a = no-fit (valid-fits m k b first s (h .few) v vv (same-but few v a))
 
   -- the stripe with column `first` rewritten agrees
   agrees : Agrees m k b map s (rewritten m k b first s)
@@ -125,19 +125,14 @@ order n map gaps counts e =
     (λ q. absurd (let z : gaps .first ≡ gaps .second = omega arith in let y = ap (λ t. absentBelow t map) z in omega (arith, low .2, high .2)))) in
     (below, high .0)
 
--- restore's rule after the tests
-abbrev lastRules : ℕ → ℕ → ℕ → List Bool → List ℕ → List Rule
-lastRules m k b map s = record { condition = (v : List ℕ) → Valid m k b v → Agrees m k b map s v → ⊥; refusal = Contradicted } ∷ []
-
 module _ (m k b : ℕ) (map : Map) (s before : List ℕ) where
-  pub restore-refused : (j : Given) {f g : Refusal} → JudgesGaps m k b (map .places) (length s) (length before) j → j ≡ given.Refused f → g ≡ refusalOf j
+  pub restore-refused : (j : Given) {f g : Refusal} → JudgesGaps m k b map (length s) (length before) j → j ≡ given.Refused f → g ≡ refusalOf j
       → Restores m k b map s before before (Refused g)
-  restore-refused j h e q = record { told = gaps-refused m k b (length s) (map .places) (length before) (lastRules m k b (map .places) s) j h e q; left = refl }
+  restore-refused j h e q = record { told = gaps-refused m k b (length s) map (length before) (contradicted m k b map s ∷ []) j h e q; left = refl }
 
-  module _ {c : ℕ} {gaps : Gaps} (known : FewAbsent m k b (length s) (map .places) (length before) c gaps) where
-    rules : {v : Verdict} → Gives (lastRules m k b (map .places) s) v → Gives (restoreRules m k b map s before) v
-    rules g =
-        gives-after ((stripeTests m k b (length s) ++ lentTests m k b (map .places) (length before)) ++ fewTests k (map .places)) (lastRules m k b (map .places) s) _ (known .tests) g
+  module _ {c : ℕ} {gaps : Gaps} (known : FewAbsent m k b (length s) map (length before) c gaps) where
+    rules : {v : Verdict} → Gives (contradicted m k b map s ∷ []) v → Gives (restoreRules m k b map s (length before)) v
+    rules g = gives-after (gapRules m k b map (length s) (length before)) (contradicted m k b map s ∷ []) _ (known .tests) g
 
     shape : Shape m k b
     shape = known .lent .numbers .shape
@@ -180,6 +175,6 @@ module _ (m k b : ℕ) (map : Map) (s before : List ℕ) where
           record { told = rules (gives-next (λ c. c (r .stripe) (r .valid) (r .agrees)) refl); left = r }
       restore-told false f = record {
         told = rules (gives-first
-            (contradicted m k b shape (map .places) s st (gaps .count) (gaps .first) (gaps .second) (counts .count) (counts .first) (counts .second) (f .0) (f .1)));
+            (none-agrees m k b shape (map .places) s st (gaps .count) (gaps .first) (gaps .second) (counts .count) (counts .first) (counts .second) (f .0) (f .1)));
         left = f .2;
       }

@@ -9,7 +9,7 @@
 use mathlib.Core.Path.{_≡_, refl, sym, ap, _∙_}
 use mathlib.Core.Logic.{_≢_, by-cases}
 use mathlib.Core.Bool.{Bool, true, false}
-use mathlib.Core.List.{List, [], _∷_, _++_}
+use mathlib.Core.List.{List, [], _∷_}
 use Prim.Native.Nat.{ℕ, suc, _+_, _*_, _≤_, _<_}
 use native.Mathlib.Nat.{mul-le-mul-right, suc-mul, zero-mul, one-mul}
 use native.Mathlib.Decide.{decLt}
@@ -27,13 +27,13 @@ use Rattle.inputs.specs.declared.shapes.Refusal.{Refusal}
 use Rattle.inputs.specs.declared.shapes.Refusal.the-variants.{NoSuchColumn, Ambiguous}
 use Rattle.inputs.specs.Refusals.{pass, refuse, Rule, Gives}
 use Rattle.inputs.specs.Shapes.{refusalOf}
-use Rattle.inputs.specs.Absent.{absentBelow, Counts}
-use Rattle.inputs.specs.Maps.{Stray, TooManyAbsent}
-use Rattle.inputs.specs.Tests.{stripeTests, lentTests, JudgesLent}
-use Rattle.evenodd.specs.Shows.{laterRules, showRules, half, Places}
-use Rattle.inputs.proofs.Rules.{gives-first, gives-next, gives-after, passed-first, equal-of}
-use Rattle.inputs.proofs.Shape.{places-most, parts-most, after-shape, passed-shape}
-use Rattle.inputs.proofs.Tests.{Lent, told-refused}
+use Rattle.inputs.specs.Absent.{Stray, absentBelow, Counts}
+use Rattle.inputs.specs.Rules.{noSuchColumn, tooManyAbsent, lentRules, showRules}
+use Rattle.inputs.specs.Tests.{JudgesLent}
+use Rattle.evenodd.specs.Shows.{half, Places}
+use Rattle.inputs.proofs.Rules.{gives-first, gives-next, gives-after, gives-passed, passed-first}
+use Rattle.inputs.proofs.Shape.{places-most, parts-most}
+use Rattle.inputs.proofs.Tests.{Lent, lent-given, lent-passed, told-refused}
 
 pub record NotRefused (m k b : ℕ) (map : Map) (s bench : List ℕ) (column : ℕ) : Type 0 where
   pub shape : Shape m k b
@@ -43,41 +43,37 @@ pub record NotRefused (m k b : ℕ) (map : Map) (s bench : List ℕ) (column : �
   pub named : column < k + 2
   pub few : absences k (map .places) ≤ 2
 
+-- show's rules after those that it shares with restore
+abbrev lastRules : ℕ → Map → ℕ → List Rule
+lastRules k map column = noSuchColumn k column ∷ tooManyAbsent k map ∷ []
+
 module _ (m k b : ℕ) (map : Map) (s bench : List ℕ) (column : ℕ) where
-  pub passes : NotRefused m k b map s bench column → Gives (showRules m k b map s bench column) pass
+  pub passes : NotRefused m k b map s bench column → Gives (showRules m k b map (length s) (length bench) column) pass
   passes p =
-      after-shape m k b (laterRules m k b map s bench column) pass (p .shape)
-      (gives-next (λ f. f (p .stripe)) (gives-next (λ f. f (p .held)) (gives-next (p .clear) (gives-next (λ h. omega arith) (gives-next (λ h. omega arith) refl)))))
+      gives-after (lentRules m k b map (length s) (length bench)) (lastRules k map column) pass
+      (lent-passed m k b (length s) map (length bench) (record { shape = p .shape; stripe = p .stripe; held = p .held; clear = p .clear }))
+      (gives-next (λ h. omega arith) (gives-next (λ h. omega arith) refl))
 
-  pub not-refused : Gives (showRules m k b map s bench column) pass → NotRefused m k b map s bench column
+  pub not-refused : Gives (showRules m k b map (length s) (length bench) column) pass → NotRefused m k b map s bench column
   not-refused g =
-      let (shape, two) = passed-shape m k b (laterRules m k b map s bench column) g in
-      let (stripe, three) = passed-first two in
-      let (held, nine) = passed-first three in
-      let (clear, seven) = passed-first nine in
-      let (named, four) = passed-first seven in
-      let (few, none) = passed-first four in
-      record { shape = shape; stripe = equal-of _ _ stripe; held = equal-of _ _ held; clear = clear; named = omega arith; few = omega arith }
-
--- show's rules after the tests that it shares with restore
-abbrev lastRules : ℕ → List Bool → ℕ → List Rule
-lastRules k map column =
-    record { condition = k + 2 ≤ column; refusal = NoSuchColumn }
-    ∷ record { condition = TooManyAbsent k map; refusal = Ambiguous }
-    ∷ []
+      let (lent, last) = gives-passed (lentRules m k b map (length s) (length bench)) (lastRules k map column) g in
+      let fits = lent-given m k b (length s) map (length bench) lent in
+      let (named, four) = passed-first last in
+      let (few, _) = passed-first four in
+      record { shape = fits .shape; stripe = fits .stripe; held = fits .held; clear = fits .clear; named = omega arith; few = omega arith }
 
 module _ (m k b : ℕ) (map : Map) (s bench : List ℕ) (column : ℕ) where
-  pub show-refused : (j : Judged) {f g : Refusal} → JudgesLent m k b (map .places) (length s) (length bench) j → j ≡ judged.Refused f → g ≡ refusalOf j
+  pub show-refused : (j : Judged) {f g : Refusal} → JudgesLent m k b map (length s) (length bench) j → j ≡ judged.Refused f → g ≡ refusalOf j
       → Places m k b map s bench column (Refused g)
   show-refused j h e q = record {
-    told = told-refused (stripeTests m k b (length s) ++ lentTests m k b (map .places) (length bench)) (lastRules k (map .places) column) j (h .told) e q;
+    told = told-refused (lentRules m k b map (length s) (length bench)) (lastRules k map column) j (h .told) e q;
     lies = tt;
   }
 
-  module _ {c : ℕ} (lent : Lent m k b (length s) (map .places) (length bench) c) where
-    rules : {f : Refusal} → Gives (lastRules k (map .places) column) (refuse f) → Places m k b map s bench column (Refused f)
+  module _ {c : ℕ} (lent : Lent m k b (length s) map (length bench) c) where
+    rules : {f : Refusal} → Gives (lastRules k map column) (refuse f) → Places m k b map s bench column (Refused f)
     rules g = record {
-      told = gives-after (stripeTests m k b (length s) ++ lentTests m k b (map .places) (length bench)) (lastRules k (map .places) column) _ (lent .tests) g;
+      told = gives-after (lentRules m k b map (length s) (length bench)) (lastRules k map column) _ (lent .tests) g;
       lies = tt;
     }
 

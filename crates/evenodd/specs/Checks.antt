@@ -5,12 +5,13 @@
 use mathlib.Core.Path.{_≡_}
 use mathlib.Core.List.{List}
 use Prim.Native.Nat.{ℕ}
+use lib.ListN.{length}
 use Rattle.parity.specs.Stripe.{Intact, brokenRows, brokenDiagonals}
 use Rattle.counts.specs.declared.Counts.{Counts}
 use Rattle.evenodd.specs.declared.checks.Checked.{Checked}
 use Rattle.evenodd.specs.declared.checks.Checked.the-variants as checked
 use Rattle.inputs.specs.Refusals.{Verdict, pass, refuse, Gives}
-use Rattle.inputs.specs.Shapes.{stripeRules}
+use Rattle.inputs.specs.Rules.{stripeRules}
 
 abbrev pub verdictOf : Checked → Verdict
 verdictOf checked.Intact = pass
@@ -33,7 +34,7 @@ Found m k b s (checked.Broken rows diagonals) = (Intact m k b s → ⊥) × (row
 Found m k b s (checked.Refused r) = Unit {0}
 
 pub record Checks (m k b : ℕ) (s : List ℕ) (r : Checked) : Type 0 where
-  pub told : Gives (stripeRules m k b s) (verdictOf r)
+  pub told : Gives (stripeRules m k b (length s)) (verdictOf r)
   pub found : Found m k b s r
 
 abbrev pub Says : Counts → Checked → Type 0

@@ -16,7 +16,7 @@ use Rattle.evenodd.specs.declared.mends.Mended.{Mended}
 use Rattle.evenodd.specs.declared.mends.Mended.the-variants as mended
 use Rattle.evenodd.specs.declared.restores.Restored.{Restored}
 use Rattle.evenodd.specs.declared.restores.Restored.the-variants as restored
-use Rattle.inputs.specs.Maps.{Stray}
+use Rattle.inputs.specs.Absent.{Stray}
 use Rattle.evenodd.specs.Encodes.{Encodes}
 use Rattle.evenodd.specs.Restores.{Benched, Restores}
 use Rattle.evenodd.specs.Mends.{Mends}

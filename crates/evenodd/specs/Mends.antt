@@ -1,27 +1,20 @@
 -- What mend answers and leaves.
---   mendRules     its refusals, in order: 1, 2, 6; blameRules: the last
 --   Mends         intact: the stripe is valid and nothing is written; mended: the stripe is now a valid one that differed in exactly that
 --                 column; refused: nothing is written
 --   mendedBy      the answer that each suspect brings
 use mathlib.Core.Path.{_≡_}
-use mathlib.Core.List.{List, [], _∷_, _++_}
-use Prim.Native.Nat.{ℕ, _+_, _≤_, _<_}
+use mathlib.Core.List.{List}
+use Prim.Native.Nat.{ℕ, _+_, _<_}
 use lib.Dec.{eqb}
 use Rattle.parity.specs.Stripe.{Valid}
-use Rattle.parity.specs.Presence.{differing, DifferIn}
+use Rattle.parity.specs.Presence.{DifferIn}
 use Rattle.blame.specs.declared.Suspect.{Suspect}
 use Rattle.blame.specs.declared.Suspect.the-variants.{Nothing, Column, Nobody}
 use Rattle.evenodd.specs.declared.mends.Mended.{Mended}
 use Rattle.evenodd.specs.declared.mends.Mended.the-variants as mended
 use Rattle.inputs.specs.declared.shapes.Refusal.the-variants.{Unmendable}
-use Rattle.inputs.specs.Refusals.{Verdict, pass, refuse, Rule, Gives}
-use Rattle.inputs.specs.Shapes.{stripeRules}
-
-abbrev pub blameRules : ℕ → ℕ → ℕ → List ℕ → List Rule
-blameRules m k b s = record { condition = (v : List ℕ) → Valid m k b v → differing m k b s v ≤ 1 → ⊥; refusal = Unmendable } ∷ []
-
-abbrev pub mendRules : ℕ → ℕ → ℕ → List ℕ → List Rule
-mendRules m k b s = stripeRules m k b s ++ blameRules m k b s
+use Rattle.inputs.specs.Refusals.{Verdict, pass, refuse, Gives}
+use Rattle.inputs.specs.Rules.{mendRules}
 
 abbrev pub verdictOf : Mended → Verdict
 verdictOf mended.Intact = pass

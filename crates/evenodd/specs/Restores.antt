@@ -1,43 +1,28 @@
 -- What restore answers and leaves in the bench. It speaks of valid stripes that agree, and of nothing else.
---   restoreRules   its refusals, in order: 1, 2, 3, 9, 4, 5; benchRules: those after the shape's
+--   verdictOf      the verdict of an answer
 --   Benched        the bench holds columns `first` and `second` of v; of n columns restored, halves that hold none are as they were
 --   Restores       how many columns are absent and their numbers, 129 for none, and the bench is that of a valid stripe that agrees
 --   restoredBy     the answer where the gaps were filled, and where they could not be
 use mathlib.Core.Path.{_≡_}
-use mathlib.Core.Logic.{_≢_}
 use mathlib.Core.Bool.{Bool, true, false, cond}
-use mathlib.Core.List.{List, [], _∷_, _++_}
+use mathlib.Core.List.{List}
 use Prim.Native.Nat.{ℕ, _+_, _-_, _<_}
 use lib.Dec.{ltb}
 use lib.ListN.{length}
-use Rattle.parity.specs.Shape.{stripeLength, benchLength}
 use Rattle.parity.specs.Stripe.{byte, Valid}
 use Rattle.parity.specs.Presence.{absences, Agrees}
 use Rattle.inputs.specs.declared.maps.Gaps.{Gaps}
 use Rattle.inputs.specs.declared.maps.Map.{Map}
 use Rattle.evenodd.specs.declared.restores.Restored.{Restored}
 use Rattle.evenodd.specs.declared.restores.Restored.the-variants.{Columns, Refused}
-use Rattle.inputs.specs.declared.shapes.Refusal.the-variants.{StripeLength, BenchLength, StrayColumn, Ambiguous, Contradicted}
-use Rattle.inputs.specs.Refusals.{Verdict, pass, refuse, Rule, Gives}
-use Rattle.inputs.specs.Shapes.{shapeRules}
+use Rattle.inputs.specs.declared.shapes.Refusal.the-variants.{Contradicted}
+use Rattle.inputs.specs.Refusals.{Verdict, pass, refuse, Gives}
+use Rattle.inputs.specs.Rules.{restoreRules}
 use Rattle.inputs.specs.Absent.{NthAbsent}
-use Rattle.inputs.specs.Maps.{Stray, TooManyAbsent}
 
-abbrev pub benchRules : ℕ → ℕ → ℕ → Map → List ℕ → List ℕ → List Rule
-benchRules m k b map s bench =
-    record { condition = length s ≢ stripeLength m k b; refusal = StripeLength }
-    ∷ record { condition = length bench ≢ benchLength m b; refusal = BenchLength }
-    ∷ record { condition = Stray k (map .places); refusal = StrayColumn }
-    ∷ record { condition = TooManyAbsent k (map .places); refusal = Ambiguous }
-    ∷ record { condition = (v : List ℕ) → Valid m k b v → Agrees m k b (map .places) s v → ⊥; refusal = Contradicted }
-    ∷ []
-
-abbrev pub restoreRules : ℕ → ℕ → ℕ → Map → List ℕ → List ℕ → List Rule
-restoreRules m k b map s bench = shapeRules m k b ++ benchRules m k b map s bench
-
-abbrev pub restored : Restored → Verdict
-restored (Columns n first second) = pass
-restored (Refused r) = refuse r
+abbrev pub verdictOf : Restored → Verdict
+verdictOf (Columns n first second) = pass
+verdictOf (Refused r) = refuse r
 
 pub record Benched (m b n first second : ℕ) (v before after : List ℕ) : Type 0 where
   pub size : length after ≡ length before
@@ -59,7 +44,7 @@ Left m k b map s before after (Columns n first second) = RestoredFrom m k b map 
 Left m k b map s before after (Refused r) = after ≡ before
 
 pub record Restores (m k b : ℕ) (map : Map) (s before after : List ℕ) (r : Restored) : Type 0 where
-  pub told : Gives (restoreRules m k b map s before) (restored r)
+  pub told : Gives (restoreRules m k b map s (length before)) (verdictOf r)
   pub left : Left m k b (map .places) s before after r
 
 abbrev pub restoredBy : Gaps → Bool → Restored

@@ -1,46 +1,31 @@
 -- What show says and hands out.
---   showRules          its refusals, in order: 1, 2, 3, 9, 7, 4; laterRules: those after the shape's
+--   verdictOf          the verdict of an answer
 --   half map t         the half of the bench where restore puts absent column t: 0 for the lowest absent column, 1 for the other
 --   PartOf x at n r    r is the n bytes of the lent buffer x from `at` on, where they lie: the same block, the place in it, the bytes. No copy.
 --   Places             what the question "where" answers
 --   Shows              what show hands out; refused, it is an empty part at the start of the stripe
 use mathlib.Core.Path.{_≡_}
-use mathlib.Core.Logic.{_≢_}
 use mathlib.Core.Bool.{Bool, true, false}
-use mathlib.Core.List.{List, [], _∷_, _++_}
-use Prim.Native.Nat.{ℕ, _+_, _*_, _≤_}
+use mathlib.Core.List.{List}
+use Prim.Native.Nat.{ℕ, _+_, _*_}
 use denote.Ref.{RefT, now}
 use lib.ListN.{length, take, drop}
-use Rattle.parity.specs.Shape.{columnLength, stripeLength, benchLength}
+use Rattle.parity.specs.Shape.{columnLength}
 use Rattle.parity.specs.Presence.{present}
 use Rattle.inputs.specs.declared.maps.Map.{Map}
 use Rattle.evenodd.specs.declared.shows.Place.{Place}
 use Rattle.evenodd.specs.declared.shows.Place.the-variants.{InStripe, InBench, Refused}
-use Rattle.inputs.specs.declared.shapes.Refusal.the-variants.{StripeLength, BenchLength, StrayColumn, NoSuchColumn, Ambiguous}
-use Rattle.inputs.specs.Refusals.{Verdict, pass, refuse, Rule, Gives}
-use Rattle.inputs.specs.Shapes.{shapeRules}
+use Rattle.inputs.specs.Refusals.{Verdict, pass, refuse, Gives}
+use Rattle.inputs.specs.Rules.{showRules}
 use Rattle.inputs.specs.Absent.{absentBelow}
-use Rattle.inputs.specs.Maps.{Stray, TooManyAbsent}
-
-abbrev pub laterRules : ℕ → ℕ → ℕ → Map → List ℕ → List ℕ → ℕ → List Rule
-laterRules m k b map s bench column =
-    record { condition = length s ≢ stripeLength m k b; refusal = StripeLength }
-    ∷ record { condition = length bench ≢ benchLength m b; refusal = BenchLength }
-    ∷ record { condition = Stray k (map .places); refusal = StrayColumn }
-    ∷ record { condition = k + 2 ≤ column; refusal = NoSuchColumn }
-    ∷ record { condition = TooManyAbsent k (map .places); refusal = Ambiguous }
-    ∷ []
-
-abbrev pub showRules : ℕ → ℕ → ℕ → Map → List ℕ → List ℕ → ℕ → List Rule
-showRules m k b map s bench column = shapeRules m k b ++ laterRules m k b map s bench column
 
 unfoldable pub half : List Bool → ℕ → ℕ
 half map t = absentBelow t map
 
-abbrev pub placed : Place → Verdict
-placed (InStripe start n) = pass
-placed (InBench start n) = pass
-placed (Refused r) = refuse r
+abbrev pub verdictOf : Place → Verdict
+verdictOf (InStripe start n) = pass
+verdictOf (InBench start n) = pass
+verdictOf (Refused r) = refuse r
 
 abbrev pub Lies : ℕ → ℕ → List Bool → ℕ → Place → Type 0
 Lies m b map column (InStripe start n) = (present map column ≡ true) × (start ≡ column * columnLength m b) × (n ≡ columnLength m b)
@@ -48,7 +33,7 @@ Lies m b map column (InBench start n) = (present map column ≡ false) × (start
 Lies m b map column (Refused r) = Unit {0}
 
 pub record Places (m k b : ℕ) (map : Map) (s bench : List ℕ) (column : ℕ) (r : Place) : Type 0 where
-  pub told : Gives (showRules m k b map s bench column) (placed r)
+  pub told : Gives (showRules m k b map (length s) (length bench) column) (verdictOf r)
   pub lies : Lies m b (map .places) column r
 
 pub record PartOf (x : RefT (List ℕ)) (at n : ℕ) (r : RefT (List ℕ)) : Type 0 where

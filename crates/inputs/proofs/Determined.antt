@@ -14,8 +14,7 @@ use Rattle.inputs.specs.Absent.{Counts}
 use Rattle.inputs.proofs.Absent.{past-all, nth-one}
 use Rattle.inputs.specs.declared.maps.Marked.the-variants as marked
 use Rattle.inputs.specs.declared.shapes.Judged.the-variants as judged
-use Rattle.inputs.specs.Shapes.{shapeRules}
-use Rattle.inputs.specs.Maps.{placeRules}
+use Rattle.inputs.specs.Rules.{shapeRules, placeRules}
 use Rattle.inputs.specs.Determined.{JudgesOne, NewOne, OfBytesOne, AsBytesOne, MarksOne, MarkedTwice, JudgesPlaceOne, FindsGapsOne, FindsStraysOne}
 use Rattle.inputs.proofs.Rules.{passes-not, refuse-one, gives-one}
 use Rattle.inputs.proofs.Presence.{same-map}

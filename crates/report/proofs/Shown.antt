@@ -16,7 +16,8 @@ use Rattle.inputs.specs.declared.maps.Map.{Map}
 use Rattle.evenodd.specs.declared.shows.Place.{Place}
 use Rattle.evenodd.specs.declared.shows.Place.the-variants.{InStripe, InBench, Refused}
 use Rattle.inputs.specs.Refusals.{pass, refuse}
-use Rattle.evenodd.specs.Shows.{showRules, half, Places, PartAt, Shows}
+use Rattle.inputs.specs.Rules.{showRules}
+use Rattle.evenodd.specs.Shows.{half, Places, PartAt, Shows}
 use Rattle.inputs.proofs.Rules.{passes-not, gives-one}
 use Rattle.evenodd.proofs.Shown.{passes, stripe-fits, bench-fits}
 use Rattle.report.specs.Shown.{columnOf, shown, Held}
@@ -44,7 +45,7 @@ module _ {m k b : ℕ} {map : Map} (s bench : RefT (List ℕ)) (held : Held m k 
       let (same, long) = part-column m b (half (map .places) t) (now bench) (now r) start n (part .bytes) at size (bench-fits h) in
       (rw absent same, long)
   placed (Refused f) h part =
-      absurd (passes-not f (gives-one (showRules m k b map (now s) (now bench) t) pass (refuse f)
+      absurd (passes-not f (gives-one (showRules m k b map (length (now s)) (length (now bench)) t) pass (refuse f)
       (passes m k b map (now s) (now bench) t (record { shape = held .shape; stripe = held .stripe; held = held .room; clear = held .clear; named = below; few = held .few }))
       (h .told)))
 

@@ -17,10 +17,12 @@ use Rattle.evenodd.specs.declared.restores.Restored.the-variants as restored
 use Rattle.inputs.specs.declared.shapes.Refusal.{Refusal}
 use Rattle.inputs.specs.declared.shapes.Refusal.the-variants as refusal
 use Rattle.inputs.specs.Refusals.{numberOf, Verdict, refuse, Gives}
-use Rattle.evenodd.specs.Restores.{restoreRules, Restores}
+use Rattle.inputs.specs.Rules.{gapRules, restoreRules}
+use Rattle.evenodd.specs.Restores.{Restores}
 use Rattle.inputs.specs.Determined.{NewOne}
 use Rattle.evenodd.specs.Determined.{RestoresOne}
-use Rattle.inputs.proofs.Rules.{passes-not, refuse-one, gives-first, gives-next, gives-one}
+use Rattle.inputs.proofs.Rules.{passes-not, refuse-one, gives-first, gives-next, gives-one, gives-after}
+use Rattle.inputs.proofs.Tests.{gaps-passed}
 use Rattle.inputs.proofs.Determined.{new-one}
 use Rattle.evenodd.proofs.Determined.{restores-one}
 use Rattle.image.specs.declared.answers.Read.the-variants as read
@@ -65,10 +67,11 @@ module _ {image : List ℕ} (s bench : List ℕ) {shape : Shape} {map : Map} (f 
   reads h = record { told = read-passes s f long; fills = (formed-good f .own, h) }
 
   rules : {x : List ℕ} {v : Verdict} → length x ≡ length s → Gives (partRules shape map x) v
-      → Gives (restoreRules (shape .m) (shape .k) (shape .b) map x bench) v
-  rules e told =
+      → Gives (restoreRules (shape .m) (shape .k) (shape .b) map x (length bench)) v
+  rules {x} e told =
       let g = formed-good f in
-      gives-next (λ d. d (g .shape)) (gives-next (λ d. d (e ∙ long)) (gives-next (λ d. d room) (gives-next (not-stray g) (gives-next (λ q. omega arith) told))))
+      gives-after (gapRules (shape .m) (shape .k) (shape .b) map (length x) (length bench)) (partRules shape map x) _
+      (gaps-passed (shape .m) (shape .k) (shape .b) (length x) map (length bench) (record { shape = g .shape; stripe = e ∙ long; held = room; clear = not-stray g }) few) told
 
   restores : (x y : List ℕ) (o : Outcome) → length x ≡ length s → Gives (partRules shape map x) (verdictOf o) → Benches shape map x bench y o
       → (r : Restored) × Restores (shape .m) (shape .k) (shape .b) map x bench y r × (o ≡ outcomeBy shape r)

@@ -10,7 +10,7 @@ use lib.ListN.{length, take, drop}
 use Rattle.parity.specs.Shape.{Shape, columnLength, stripeLength, benchLength}
 use Rattle.parity.specs.Presence.{present, absences}
 use Rattle.inputs.specs.declared.maps.Map.{Map}
-use Rattle.inputs.specs.Maps.{Stray}
+use Rattle.inputs.specs.Absent.{Stray}
 use Rattle.evenodd.specs.Shows.{half}
 
 unfoldable pub columnOf : ℕ → ℕ → List ℕ → ℕ → List ℕ

@@ -3,7 +3,7 @@ use mathlib.Core.List.{[]}
 use lib.ListN.{length}
 use denote.Ref.{now}
 use Rattle.lines.proofs.Whole.{sized}
-use Rattle.inputs.specs.Tests.{stripeTests}
+use Rattle.inputs.specs.Rules.{stripeRules}
 use Rattle.inputs.proofs.Tests.{told-refused, Numbers, stripe-good, stripe-long}
 use Rattle.inputs.proofs.Stripe.{stripe-passed}
 use Rattle.evenodd.proofs.Checked.{says-checks}
@@ -30,7 +30,7 @@ returns : tie.Need-returns
 returns c =
     let at = c .before .before .before in
     let a = at .before .before .args in
-    record { told = told-refused (stripeTests (a .m) (a .k) (a .b) (length (now (a .stripe)))) [] (at .judge-stripe .result) (at .judge-stripe .ensures .told) (c .before .enum-told .given .1) (c .refusal .ensures); found = tt }
+    record { told = told-refused (stripeRules (a .m) (a .k) (a .b) (length (now (a .stripe)))) [] (at .judge-stripe .result) (at .judge-stripe .ensures .told) (c .before .enum-told .given .1) (c .refusal .ensures); found = tt }
 
 count-broken-requires : tie.Need-count-broken-requires
 count-broken-requires c κs = let n = good c in (sized (n .shape) (n .column), n .shape .few, stripe-long n)
@@ -43,7 +43,7 @@ returns-2 c =
     let a = c .before .before .before .before .before .before .before .args in
     let n = good (c .before .before) in
     let r = c .before .count-broken .ensures in
-    says-checks (a .m) (a .k) (a .b) (now (a .stripe)) (stripe-passed (a .m) (a .k) (a .b) (now (a .stripe)) (n .shape) (n .stripe)) (c .before .count-broken .result) (r .0) (r .1) (c .told .result) (c .told .ensures)
+    says-checks (a .m) (a .k) (a .b) (now (a .stripe)) (stripe-passed (a .m) (a .k) (a .b) (length (now (a .stripe))) (n .shape) (n .stripe)) (c .before .count-broken .result) (r .0) (r .1) (c .told .result) (c .told .ensures)
 
 pub check-spec : {M : Type 1} → statement M
 check-spec =

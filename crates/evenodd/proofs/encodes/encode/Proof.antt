@@ -8,7 +8,7 @@ use borrow.Author.Needs.{needs}
 use Rattle.parity.proofs.Columns.{column-same}
 use Rattle.lines.proofs.Cells.{cell-kept}
 use Rattle.lines.proofs.Whole.{sized}
-use Rattle.inputs.specs.Tests.{stripeTests}
+use Rattle.inputs.specs.Rules.{stripeRules}
 use Rattle.inputs.proofs.Tests.{told-refused, Numbers, stripe-good, stripe-long}
 use Rattle.inputs.proofs.Stripe.{stripe-passed}
 use Rattle.evenodd.proofs.encodes.encode.Statement.{statement}
@@ -34,7 +34,7 @@ returns : tie.Need-returns
 returns c =
     let at = c .before .before .before in
     let a = at .before .before .args in
-    record { told = told-refused (stripeTests (a .m) (a .k) (a .b) (length (now (a .stripe)))) [] (at .judge-stripe .result) (at .judge-stripe .ensures .told) (c .before .enum-told .given .1) (c .refusal .ensures); written = refl }
+    record { told = told-refused (stripeRules (a .m) (a .k) (a .b) (length (now (a .stripe)))) [] (at .judge-stripe .result) (at .judge-stripe .ensures .told) (c .before .enum-told .given .1) (c .refusal .ensures); written = refl }
 
 put-parity-requires : tie.Need-put-parity-requires
 put-parity-requires c κs = let n = good (c .before) in (sized (n .shape) (n .column), n .shape .real, n .shape .few, stripe-long n)
@@ -50,7 +50,7 @@ returns-2 c =
     let r = c .before .before .put-parity .ensures in
     let after = c .before .before .put-parity .last .0 in
     record {
-      told = stripe-passed (a .m) (a .k) (a .b) (now (a .stripe)) (n .shape) (n .stripe);
+      told = stripe-passed (a .m) (a .k) (a .b) (length (now (a .stripe))) (n .shape) (n .stripe);
       written = (
         record {
           stripe = record { whole = r .size ∙ n .stripe; bytes = λ x. omega (arith, c .slice-known2 .given x) };

@@ -1,12 +1,13 @@
 -- `evenodd::mends::mend` meets its contract: the tests, and what `amend` found and left.
 use mathlib.Core.Path.{refl, sym, subst}
+use mathlib.Core.List.{[], _∷_}
 use lib.ListN.{length}
 use native.Mathlib.Omega.{arith}
 use denote.Ref.{now}
 use borrow.Author.Needs.{needs}
 use Rattle.parity.specs.Stripe.{Stripe}
-use Rattle.evenodd.specs.Mends.{blameRules, Mends}
-use Rattle.inputs.specs.Tests.{stripeTests}
+use Rattle.evenodd.specs.Mends.{Mends}
+use Rattle.inputs.specs.Rules.{unmendable, stripeRules}
 use Rattle.inputs.proofs.Tests.{told-refused, Numbers, stripe-good}
 use Rattle.evenodd.proofs.Mended.{mend-answer}
 use Rattle.evenodd.proofs.mends.mend.Statement.{statement}
@@ -37,7 +38,7 @@ returns c =
     let at = c .before .before .before in
     let a = at .before .before .args in
     record {
-      told = told-refused (stripeTests (a .m) (a .k) (a .b) (length (now (a .stripe)))) (blameRules (a .m) (a .k) (a .b) (now (a .stripe)))
+      told = told-refused (stripeRules (a .m) (a .k) (a .b) (length (now (a .stripe)))) (unmendable (a .m) (a .k) (a .b) (now (a .stripe)) ∷ [])
           (at .judge-stripe .result) (at .judge-stripe .ensures .told) (c .before .enum-told .given .1) (c .refusal .ensures);
       rewritten = refl;
     }

@@ -12,7 +12,7 @@ use Rattle.evenodd.proofs.restores.restore.Statement.{statement}
 use Rattle.evenodd.proofs.restores.restore.Tie as tie
 
 good : (c : tie.After-known-told) → let a = c .before .before .before .before .before .before .args in let x = c .before .judged .given .0 in
-    FewAbsent (a .m) (a .k) (a .b) (length (now (a .stripe))) (a .map .places) (length (now (a .bench))) (x .0) (x .1 .0)
+    FewAbsent (a .m) (a .k) (a .b) (length (now (a .stripe))) (a .map) (length (now (a .bench))) (x .0) (x .1 .0)
 good c = let at = c .before .before .before in gaps-good _ _ _ _ _ _ (at .judge-gaps .result) (at .judge-gaps .ensures) (c .before .judged .given .1)
 
 -- a stripe, of the length that was tested

@@ -13,7 +13,7 @@ use Rattle.evenodd.proofs.shows.place_of.Statement.{statement}
 use Rattle.evenodd.proofs.shows.place_of.Tie as tie
 
 good : (c : tie.After-known-told) → let a = c .before .before .before .before .before .before .args in
-    Lent (a .m) (a .k) (a .b) (length (now (a .stripe))) (a .map .places) (length (now (a .bench))) (c .before .judged .given .0 .0)
+    Lent (a .m) (a .k) (a .b) (length (now (a .stripe))) (a .map) (length (now (a .bench))) (c .before .judged .given .0 .0)
 good c = let at = c .before .before .before in lent-good _ _ _ _ _ _ (at .judge-lent .result) (at .judge-lent .ensures) (c .before .judged .given .1)
 
 -- k + 2 places are at most 129
