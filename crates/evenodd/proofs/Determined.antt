@@ -18,6 +18,8 @@ use Rattle.inputs.proofs.Rules.{passes-not, refuse-one, gives-one, passed-first
 use Rattle.inputs.proofs.Stripe.{stripe-given}
 use Rattle.evenodd.specs.declared.checks.Checked.the-variants as checked
 use Rattle.evenodd.specs.declared.encodes.Encoded.the-variants as encoded
+use Rattle.evenodd.proofs.Mended.{intact-valid}
+use Rattle.evenodd.proofs.Shown.{in-stripe, in-bench}
 use Rattle.evenodd.specs.Determined.{EncodesOne, ChecksOne, RestoresOne, RestoresUnread, MendsOne, PlacesOne, SamePart, ShowsOne, PlacesUnread, ShowsUnread}
 use lib.Dec.{eqb}
 use lib.ListN.{length}
@@ -29,9 +31,8 @@ use Rattle.inputs.specs.declared.maps.Map.{Map}
 use Rattle.inputs.specs.Refusals.{pass, Gives, Verdict}
 use Rattle.inputs.proofs.Tests.{lent-given}
 use Rattle.evenodd.specs.declared.mends.Mended.the-variants as mended
-use Rattle.evenodd.specs.declared.restores.Restored.{Restored}
 use Rattle.evenodd.specs.declared.restores.Restored.the-variants as restored
-use Rattle.evenodd.specs.Restores.{Benched, Left}
+use Rattle.evenodd.specs.Restores.{Benched, RestoredFrom}
 use denote.Ref.{RefT, now}
 use Rattle.evenodd.specs.declared.shows.Place.{Place}
 use Rattle.evenodd.specs.declared.shows.Place.the-variants.{InStripe, InBench, Refused}
@@ -62,10 +63,13 @@ encodes-one m k b s x y (encoded.Refused f) (encoded.Refused g) p q =
 pub checks-one : ChecksOne
 unfolding ChecksOne
 checks-one m k b s checked.Intact checked.Intact p q = refl
-checks-one m k b s checked.Intact (checked.Broken x y) p q = absurd (q .found .0 (p .found))
+checks-one m k b s checked.Intact (checked.Broken x y) p q = sym (q .counted refl .intact .1 (p .counted refl .intact .0 refl))
 checks-one m k b s checked.Intact (checked.Refused g) p q = absurd (passes-not g (gives-one (stripeRules m k b (length s)) _ _ (p .told) (q .told)))
-checks-one m k b s (checked.Broken x y) checked.Intact p q = absurd (p .found .0 (q .found))
-checks-one m k b s (checked.Broken x y) (checked.Broken u v) p q = ap₂ checked.Broken (p .found .1 ∙ sym (q .found .1)) (p .found .2 ∙ sym (q .found .2))
+checks-one m k b s (checked.Broken x y) checked.Intact p q = p .counted refl .intact .1 (q .counted refl .intact .0 refl)
+checks-one m k b s (checked.Broken x y) (checked.Broken u v) p q =
+    let c = p .counted refl in
+    let d = q .counted refl in
+    ap₂ checked.Broken (c .rows ∙ sym (d .rows)) (c .diagonals ∙ sym (d .diagonals))
 checks-one m k b s (checked.Broken x y) (checked.Refused g) p q = absurd (passes-not g (gives-one (stripeRules m k b (length s)) _ _ (p .told) (q .told)))
 checks-one m k b s (checked.Refused f) checked.Intact p q = absurd (passes-not f (gives-one (stripeRules m k b (length s)) _ _ (q .told) (p .told)))
 checks-one m k b s (checked.Refused f) (checked.Broken u v) p q = absurd (passes-not f (gives-one (stripeRules m k b (length s)) _ _ (q .told) (p .told)))
@@ -101,8 +105,8 @@ pub restores-one : RestoresOne
 unfolding RestoresOne AtMostOne
 restores-one m k b map s bench x y (restored.Columns n f g) (restored.Columns n′ f′ g′) p q =
     let w = restore-passed m k b map s bench (p .told) in
-    let u = p .left in
-    let v = q .left in
+    let u = p .restored refl in
+    let v = q .restored refl in
     let h = w .shape in
     let en : n ≡ n′ = u .counted ∙ sym (v .counted) in
     let ef : f ≡ f′ = nth-one (k + 2) 0 (map .places) f f′ (u .lowest) (v .lowest) in
@@ -112,11 +116,11 @@ restores-one m k b map s bench x y (restored.Columns n f g) (restored.Columns n�
 restores-one m k b map s bench x y (restored.Columns n f g) (restored.Refused r) p q = absurd (passes-not r (gives-one (restoreRules m k b map s (length bench)) _ _ (p .told) (q .told)))
 restores-one m k b map s bench x y (restored.Refused r) (restored.Columns n f g) p q = absurd (passes-not r (gives-one (restoreRules m k b map s (length bench)) _ _ (q .told) (p .told)))
 restores-one m k b map s bench x y (restored.Refused r) (restored.Refused r′) p q =
-    (ap restored.Refused (refuse-one r r′ (gives-one (restoreRules m k b map s (length bench)) _ _ (p .told) (q .told))), p .left ∙ sym (q .left))
+    (ap restored.Refused (refuse-one r r′ (gives-one (restoreRules m k b map s (length bench)) _ _ (p .told) (q .told))), p .kept r refl ∙ sym (q .kept r′ refl))
 
 pub restores-unread : RestoresUnread
 unfolding RestoresUnread AbsentUnread
-restores-unread m k b map s other bench x r p e a = record { told = gives-alike (restoreRules m k b map s (length bench)) (restoreRules m k b map other (length bench)) _ same (p .told); left = left r (p .left) }
+restores-unread m k b map s other bench x r p e a = record { told = gives-alike (restoreRules m k b map s (length bench)) (restoreRules m k b map other (length bench)) _ same (p .told); restored = λ e. again (p .restored e); kept = p .kept }
   where
     agrees : (v : List ℕ) → Agrees m k b (map .places) s v ↔ Agrees m k b (map .places) other v
     agrees = absent-unread m k b (map .places) s other a
@@ -144,8 +148,8 @@ restores-unread m k b map s other bench x r p e a = record { told = gives-alike 
       ),
     )
 
-    left : (r : Restored) → Left m k b (map .places) s bench x r → Left m k b (map .places) other bench x r
-    left (restored.Columns n f g) u = record {
+    again : {n f g : ℕ} → RestoredFrom m k b (map .places) s bench x n f g → RestoredFrom m k b (map .places) other bench x n f g
+    again u = record {
       stripe = u .stripe;
       valid = u .valid;
       agrees = agrees (u .stripe) .0 (u .agrees);
@@ -154,7 +158,6 @@ restores-unread m k b map s other bench x r p e a = record { told = gives-alike 
       other = u .other;
       bench = u .bench;
     }
-    left (restored.Refused f) u = u
 
 -- ---- mend
 
@@ -169,20 +172,20 @@ not-one m k b h s x u hu vs vx d =
 
 pub mends-one : MendsOne
 unfolding MendsOne OneWrong
-mends-one m k b s x y mended.Intact mended.Intact p q = (refl, p .rewritten .1 ∙ sym (q .rewritten .1))
+mends-one m k b s x y mended.Intact mended.Intact p q = (refl, p .kept refl ∙ sym (q .kept refl))
 mends-one m k b s x y mended.Intact (mended.Column v) p q =
-    absurd (not-one m k b (mend-shape m k b s (p .told)) s y v (q .rewritten .0) (p .rewritten .0) (q .rewritten .1) (q .rewritten .2))
+    absurd (not-one m k b (mend-shape m k b s (p .told)) s y v (q .named v refl) (intact-valid p) (q .valid refl) (q .differed refl))
 mends-one m k b s x y mended.Intact (mended.Refused g) p q = absurd (passes-not g (gives-one (mendRules m k b s) _ _ (p .told) (q .told)))
 mends-one m k b s x y (mended.Column u) mended.Intact p q =
-    absurd (not-one m k b (mend-shape m k b s (p .told)) s x u (p .rewritten .0) (q .rewritten .0) (p .rewritten .1) (p .rewritten .2))
+    absurd (not-one m k b (mend-shape m k b s (p .told)) s x u (p .named u refl) (intact-valid q) (p .valid refl) (p .differed refl))
 mends-one m k b s x y (mended.Column u) (mended.Column v) p q =
-    let (a, c) = one-wrong m k b (mend-shape m k b s (p .told)) s x y u v (p .rewritten .0) (q .rewritten .0) (p .rewritten .1) (q .rewritten .1) (p .rewritten .2) (q .rewritten .2) in
+    let (a, c) = one-wrong m k b (mend-shape m k b s (p .told)) s x y u v (p .named u refl) (q .named v refl) (p .valid refl) (q .valid refl) (p .differed refl) (q .differed refl) in
     (ap mended.Column a, c)
 mends-one m k b s x y (mended.Column u) (mended.Refused g) p q = absurd (passes-not g (gives-one (mendRules m k b s) _ _ (p .told) (q .told)))
 mends-one m k b s x y (mended.Refused f) mended.Intact p q = absurd (passes-not f (gives-one (mendRules m k b s) _ _ (q .told) (p .told)))
 mends-one m k b s x y (mended.Refused f) (mended.Column v) p q = absurd (passes-not f (gives-one (mendRules m k b s) _ _ (q .told) (p .told)))
 mends-one m k b s x y (mended.Refused f) (mended.Refused g) p q =
-    (ap mended.Refused (refuse-one f g (gives-one (mendRules m k b s) _ _ (p .told) (q .told))), p .rewritten ∙ sym (q .rewritten))
+    (ap mended.Refused (refuse-one f g (gives-one (mendRules m k b s) _ _ (p .told) (q .told))), p .kept refl ∙ sym (q .kept refl))
 
 -- ---- show
 
@@ -194,11 +197,11 @@ places-one m k b map s bench column r q x y = go r q x y
     answered v w = gives-one (showRules m k b map (length s) (length bench) column) v w
 
     go : (r q : Place) → Places m k b map s bench column r → Places m k b map s bench column q → r ≡ q
-    go (InStripe a n) (InStripe c l) x y = ap₂ InStripe (x .lies .1 ∙ sym (y .lies .1)) (x .lies .2 ∙ sym (y .lies .2))
-    go (InStripe a n) (InBench c l) x y = absurd (true≢false (sym (x .lies .0) ∙ y .lies .0))
+    go (InStripe a n) (InStripe c l) x y = let (_, p, u) = in-stripe x in let (_, q, v) = in-stripe y in ap₂ InStripe (p ∙ sym q) (u ∙ sym v)
+    go (InStripe a n) (InBench c l) x y = absurd (true≢false (sym (in-stripe x .0) ∙ in-bench y .0))
     go (InStripe a n) (Refused g) x y = absurd (passes-not g (answered _ _ (x .told) (y .told)))
-    go (InBench a n) (InStripe c l) x y = absurd (true≢false (sym (y .lies .0) ∙ x .lies .0))
-    go (InBench a n) (InBench c l) x y = ap₂ InBench (x .lies .1 ∙ sym (y .lies .1)) (x .lies .2 ∙ sym (y .lies .2))
+    go (InBench a n) (InStripe c l) x y = absurd (true≢false (sym (in-stripe y .0) ∙ in-bench x .0))
+    go (InBench a n) (InBench c l) x y = let (_, p, u) = in-bench x in let (_, q, v) = in-bench y in ap₂ InBench (p ∙ sym q) (u ∙ sym v)
     go (InBench a n) (Refused g) x y = absurd (passes-not g (answered _ _ (x .told) (y .told)))
     go (Refused f) (InStripe c l) x y = absurd (passes-not f (answered _ _ (y .told) (x .told)))
     go (Refused f) (InBench c l) x y = absurd (passes-not f (answered _ _ (y .told) (x .told)))

@@ -28,6 +28,7 @@ use Rattle.inputs.proofs.Rules.{passes-not, gives-one, gives-next, gives-after}
 use Rattle.inputs.proofs.Stripe.{stripe-given, stripe-passed}
 use Rattle.inputs.proofs.Tests.{gaps-passed}
 use Rattle.evenodd.proofs.Determined.{not-one}
+use Rattle.evenodd.proofs.Mended.{intact-valid}
 
 agrees-back : (m k b : ℕ) (map : List Bool) (s v : List ℕ) → Agrees m k b map s v → Agrees m k b map v s
 agrees-back m k b map s v a = record { at = λ t ht p. column-same m b v s t (λ l i hl hi. sym (same-column m b s v t (a .at t ht p) l i hl hi)) }
@@ -36,7 +37,7 @@ pub restore-gives-back : RestoreGivesBack
 unfolding RestoreGivesBack AtMostOne
 restore-gives-back m k b map fresh s lost before after (restored.Columns n f g) enc same agrees held clear few p =
     let (h, _) = stripe-given m k b (length fresh) (enc .told) in
-    let u = p .left in
+    let u = p .restored refl in
     let e : u .stripe ≡ s = at-most-one m k b h (map .places) few lost (u .stripe) s (u .valid) (enc .written .0) (u .agrees) (agrees-back m k b (map .places) s lost agrees) in
     record { count = n; first = f; second = g; answer = refl; bench = rw e at (u .bench) }
 restore-gives-back m k b map fresh s lost before after (restored.Refused r) enc same agrees held clear few p =
@@ -73,15 +74,15 @@ mend-gives-back m k b u fresh s wrong after r enc st hu only p = go r p
 
     go : (r : Mended) → Mends m k b wrong after r → (after ≡ s) × (wrong ≡ s → r ≡ mended.Intact) × (wrong ≢ s → r ≡ mended.Column u)
     go mended.Intact p =
-        let e : wrong ≡ s = near m k b h wrong s (p .rewritten .0) valid (omega (arith, few)) in
-        (p .rewritten .1 ∙ e, λ _. refl, λ ne. absurd (ne e))
+        let e : wrong ≡ s = near m k b h wrong s (intact-valid p) valid (omega (arith, few)) in
+        (p .kept refl ∙ e, λ _. refl, λ ne. absurd (ne e))
     go (mended.Column v) p = pick (differs m b wrong s u) refl
       where
         pick : (d : Bool) → differs m b wrong s u ≡ d → (after ≡ s) × (wrong ≡ s → mended.Column v ≡ mended.Intact) × (wrong ≢ s → mended.Column v ≡ mended.Column u)
         pick true e =
-            let (a, c) = one-wrong m k b h wrong after s v u (p .rewritten .0) hu (p .rewritten .1) valid (p .rewritten .2) (differ e) in
-            (c, λ q. absurd (not-one m k b h wrong after v (p .rewritten .0) (rw q valid) (p .rewritten .1) (p .rewritten .2)), λ _. ap mended.Column a)
-        pick false e = absurd (not-one m k b h wrong after v (p .rewritten .0) (rw (same e) valid) (p .rewritten .1) (p .rewritten .2))
+            let (a, c) = one-wrong m k b h wrong after s v u (p .named v refl) hu (p .valid refl) valid (p .differed refl) (differ e) in
+            (c, λ q. absurd (not-one m k b h wrong after v (p .named v refl) (rw q valid) (p .valid refl) (p .differed refl)), λ _. ap mended.Column a)
+        pick false e = absurd (not-one m k b h wrong after v (p .named v refl) (rw (same e) valid) (p .valid refl) (p .differed refl))
     go (mended.Refused f) p =
         absurd (passes-not f (gives-one (mendRules m k b wrong) _ _
         (gives-after (stripeRules m k b (length wrong)) (unmendable m k b wrong ∷ []) pass (stripe-passed m k b (length wrong) h (st .whole)) (gives-next (λ c. c s valid few) refl))

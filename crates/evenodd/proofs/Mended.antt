@@ -2,7 +2,8 @@
 --   mended-intact     no lane breaks: the stripe is valid
 --   mended-column     the columns other than u fit, and column u was rewritten: the stripe is valid, and differed in exactly that column
 --   none-near         no column's others fit: no valid stripe differs in at most one column
---   mend-answer       what mend says
+--   intact-valid      an intact stripe is valid
+--   mend-refused, mend-answer    what mend says
 use mathlib.Core.Path.{_≡_, refl, sym, ap, _∙_}
 use mathlib.Core.Logic.{_≢_, by-cases}
 use mathlib.Core.Bool.{Bool, true, false}
@@ -27,10 +28,13 @@ use Rattle.parity.proofs.Fits.{rewritten, rewritten-byte, rewritten-other, fits
 use Rattle.blame.specs.declared.Suspect.{Suspect}
 use Rattle.blame.specs.declared.Suspect.the-variants.{Nothing, Column, Nobody}
 use Rattle.amend.specs.Patches.{Patches}
-use Rattle.inputs.specs.Refusals.{Verdict, Gives}
+use Rattle.inputs.specs.declared.shapes.Refusal.{Refusal}
+use Rattle.inputs.specs.Refusals.{Verdict, pass, refuse, Gives}
 use Rattle.inputs.specs.Rules.{unmendable, stripeRules, mendRules}
+use Rattle.evenodd.specs.declared.mends.Mended.the-variants as mended
 use Rattle.evenodd.specs.Mends.{Mends, mendedBy}
-use Rattle.inputs.proofs.Rules.{gives-first, gives-next, gives-after}
+use Rattle.inputs.proofs.Rules.{passes-not, gives-first, gives-next, gives-after}
+use Rattle.inputs.proofs.Shape.{places-most}
 use Rattle.inputs.proofs.Stripe.{stripe-passed}
 
 module _ (m k b : ℕ) (h : Shape m k b) (s : List ℕ) where
@@ -81,6 +85,41 @@ module _ (m k b : ℕ) (h : Shape m k b) (s : List ℕ) where
 
 -- ---- what mend says
 
+-- an intact stripe is valid, and was
+pub intact-valid : {m k b : ℕ} {s x : List ℕ} → Mends m k b s x mended.Intact → Valid m k b s
+intact-valid p = rw (p .kept refl) at (p .valid refl)
+
+module _ (m k b : ℕ) (s after : List ℕ) where
+  pub mend-refused : {f : Refusal} → Gives (mendRules m k b s) (refuse f) → after ≡ s → Mends m k b s after (mended.Refused f)
+  mend-refused {f} told e = record {
+    told = told;
+    valid = λ q. absurd (passes-not f (sym q));
+    differed = λ q. absurd (passes-not f (sym q));
+    kept = λ _. e;
+    named = λ u q. absurd (let z : _≡_ {A = ℕ} 0 1 = cc in omega arith);
+  }
+
+  module _ (h : Shape m k b) (told : Gives (mendRules m k b s) pass) where
+    mend-intact : Valid m k b s → after ≡ s → Mends m k b s after mended.Intact
+    mend-intact v e = record {
+      told = told;
+      valid = λ _. rw e v;
+      differed = λ _. record {
+        at = λ t ht. rw e (column-same m b s s t (λ l i hl hi. refl)) ∙ sym (ne-eqb 129 t (λ q. omega (arith, places-most h)));
+      };
+      kept = λ _. e;
+      named = λ u q. absurd (let z : _≡_ {A = ℕ} 0 1 = cc in omega arith);
+    }
+
+    mend-named : {u : ℕ} → u < k + 2 → Valid m k b after → DifferIn m k b (eqb u) s after → Mends m k b s after (mended.Column u)
+    mend-named {u} hu v d = record {
+      told = told;
+      valid = λ _. v;
+      differed = λ _. d;
+      kept = λ q. absurd (omega (arith, places-most h));
+      named = λ w q. let e : u ≡ w = cc in rw e at hu;
+    }
+
 module _ (m k b : ℕ) (s after : List ℕ) (h : Shape m k b) (st : Stripe m k b s) where
   rules : {v : Verdict} → Gives (unmendable m k b s ∷ []) v → Gives (mendRules m k b s) v
   rules g = gives-after (stripeRules m k b (length s)) (unmendable m k b s ∷ []) _ (stripe-passed m k b (length s) h (st .whole)) g
@@ -89,8 +128,8 @@ module _ (m k b : ℕ) (s after : List ℕ) (h : Shape m k b) (st : Stripe m k b
   unfolding differing
   mend-answer Nothing f =
       let v = mended-intact m k b h s st (f .0) in
-      record { told = rules (gives-next (λ c. c s v (few-pass (k + 2) 0 (differs m b s s) (λ t ht ne. column-same m b s s t (λ l i hl hi. refl)))) refl); rewritten = (v, f .1) }
+      mend-intact m k b s after h (rules (gives-next (λ c. c s v (few-pass (k + 2) 0 (differs m b s s) (λ t ht ne. column-same m b s s t (λ l i hl hi. refl)))) refl)) v (f .1)
   mend-answer (Column u) f =
-      let r = mended-column m k b h s st u (f .inside) (f .fits) (f .broken) after (f .rewrote .size) (f .rewrote .inside) (f .rewrote .other) in
-      record { told = rules (gives-next (λ c. c after (r .1) (few-differ m k b u s after (r .2))) refl); rewritten = r }
-  mend-answer Nobody f = record { told = rules (gives-first (none-near m k b h s (f .0))); rewritten = f .1 }
+      let (hu, v, d) = mended-column m k b h s st u (f .inside) (f .fits) (f .broken) after (f .rewrote .size) (f .rewrote .inside) (f .rewrote .other) in
+      mend-named m k b s after h (rules (gives-next (λ c. c after v (few-differ m k b u s after d)) refl)) hu v d
+  mend-answer Nobody f = mend-refused m k b s after (rules (gives-first (none-near m k b h s (f .0)))) (f .1)

@@ -30,11 +30,12 @@ use Rattle.evenodd.specs.declared.restores.Restored.the-variants.{Refuse
 use Rattle.inputs.specs.declared.lent.Given.{Given}
 use Rattle.inputs.specs.declared.lent.Given.the-variants as given
 use Rattle.inputs.specs.declared.shapes.Refusal.{Refusal}
+use Rattle.inputs.specs.declared.shapes.Refusal.the-variants.{Contradicted}
 use Rattle.inputs.specs.Refusals.{Verdict, Gives}
 use Rattle.inputs.specs.Rules.{contradicted, gapRules, restoreRules}
 use Rattle.inputs.specs.Tests.{JudgesGaps, refusalOf}
 use Rattle.evenodd.specs.Restores.{Benched, RestoredFrom, Restores, restoredBy}
-use Rattle.inputs.proofs.Rules.{gives-first, gives-next, gives-after}
+use Rattle.inputs.proofs.Rules.{passes-not, gives-first, gives-next, gives-after}
 use Rattle.inputs.proofs.Tests.{FewAbsent, gaps-refused}
 
 module _ (m k b : ℕ) (h : Shape m k b) (map : List Bool) (s : List ℕ) (st : Stripe m k b s) (n first second : ℕ)
@@ -128,7 +129,7 @@ order n map gaps counts e =
 module _ (m k b : ℕ) (map : Map) (s before : List ℕ) where
   pub restore-refused : (j : Given) {f g : Refusal} → JudgesGaps m k b map (length s) (length before) j → j ≡ given.Refused f → g ≡ refusalOf j
       → Restores m k b map s before before (Refused g)
-  restore-refused j h e q = record { told = gaps-refused m k b (length s) map (length before) (contradicted m k b map s ∷ []) j h e q; left = refl }
+  restore-refused j h e q = record { told = gaps-refused m k b (length s) map (length before) (contradicted m k b map s ∷ []) j h e q; restored = λ p. absurd (passes-not _ (sym p)); kept = λ _ _. refl }
 
   module _ {c : ℕ} {gaps : Gaps} (known : FewAbsent m k b (length s) map (length before) c gaps) where
     rules : {v : Verdict} → Gives (contradicted m k b map s ∷ []) v → Gives (restoreRules m k b map s (length before)) v
@@ -172,9 +173,10 @@ module _ (m k b : ℕ) (map : Map) (s before : List ℕ) where
       pub restore-told : (filled : Bool) → Fills m k b gaps s before after filled → Restores m k b map s before after (restoredBy gaps filled)
       restore-told true f =
           let r = from-filled f in
-          record { told = rules (gives-next (λ c. c (r .stripe) (r .valid) (r .agrees)) refl); left = r }
+          record { told = rules (gives-next (λ c. c (r .stripe) (r .valid) (r .agrees)) refl); restored = λ _. r; kept = λ g p. absurd (passes-not g p) }
       restore-told false f = record {
         told = rules (gives-first
             (none-agrees m k b shape (map .places) s st (gaps .count) (gaps .first) (gaps .second) (counts .count) (counts .first) (counts .second) (f .0) (f .1)));
-        left = f .2;
+        restored = λ p. absurd (passes-not Contradicted (sym p));
+        kept = λ _ _. f .2;
       }

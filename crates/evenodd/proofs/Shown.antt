@@ -5,6 +5,7 @@
 --   show-named                   what holds past them
 --   start-most                   the start of a column that is named fits a number
 --   show-stripe, show-first, show-second    where a column lies: in the stripe, in the first and in the second half of the bench
+--   in-stripe, in-bench          and what an answer says of it
 --   stripe-fits, bench-fits      the part lies within the buffer
 use mathlib.Core.Path.{_≡_, refl, sym, ap, _∙_}
 use mathlib.Core.Logic.{_≢_, by-cases}
@@ -31,7 +32,7 @@ use Rattle.inputs.specs.Absent.{Stray, absentBelow, Counts}
 use Rattle.inputs.specs.Rules.{noSuchColumn, tooManyAbsent, lentRules, showRules}
 use Rattle.inputs.specs.Tests.{JudgesLent}
 use Rattle.evenodd.specs.Shows.{half, Places}
-use Rattle.inputs.proofs.Rules.{gives-first, gives-next, gives-after, gives-passed, passed-first}
+use Rattle.inputs.proofs.Rules.{passes-not, gives-first, gives-next, gives-after, gives-passed, passed-first}
 use Rattle.inputs.proofs.Shape.{places-most, parts-most}
 use Rattle.inputs.proofs.Tests.{Lent, lent-given, lent-passed, told-refused}
 
@@ -65,16 +66,16 @@ module _ (m k b : ℕ) (map : Map) (s bench : List ℕ) (column : ℕ) where
 module _ (m k b : ℕ) (map : Map) (s bench : List ℕ) (column : ℕ) where
   pub show-refused : (j : Judged) {f g : Refusal} → JudgesLent m k b map (length s) (length bench) j → j ≡ judged.Refused f → g ≡ refusalOf j
       → Places m k b map s bench column (Refused g)
-  show-refused j h e q = record {
+  show-refused j {g = g} h e q = record {
     told = told-refused (lentRules m k b map (length s) (length bench)) (lastRules k map column) j (h .told) e q;
-    lies = tt;
+    lies = λ p. absurd (passes-not g (sym p));
   }
 
   module _ {c : ℕ} (lent : Lent m k b (length s) map (length bench) c) where
     rules : {f : Refusal} → Gives (lastRules k map column) (refuse f) → Places m k b map s bench column (Refused f)
-    rules g = record {
+    rules {f} g = record {
       told = gives-after (lentRules m k b map (length s) (length bench)) (lastRules k map column) _ (lent .tests) g;
-      lies = tt;
+      lies = λ p. absurd (passes-not f (sym p));
     }
 
     pub show-7 : k + 2 ≤ column → Places m k b map s bench column (Refused NoSuchColumn)
@@ -124,16 +125,34 @@ module _ {m k b : ℕ} {map : Map} {s bench : List ℕ} {column c : ℕ} (p : No
   start-most = parts-most (p .shape) q column (let n = places-most (p .shape) in let l = p .named in omega arith)
 
   pub show-stripe : present (map .places) column ≡ true → Places m k b map s bench column (InStripe (column * c) c)
-  show-stripe e = record { told = passes m k b map s bench column p; lies = (e, ap (λ n. column * n) q, q) }
+  show-stripe e = record { told = passes m k b map s bench column p; lies = λ _. record { from = rw e; start = rw e (ap (λ n. column * n) q); size = q } }
 
   module _ {g : Gaps} (counts : Counts (k + 2) (map .places) g) (e : present (map .places) column ≡ false) where
     pub show-first : column ≡ g .first → Places m k b map s bench column (InBench 0 c)
-    show-first f = record { told = passes m k b map s bench column p; lies = (e, rw (half-first counts (p .named) e f) (sym (zero-mul (columnLength m b))), q) }
+    show-first f = record { told = passes m k b map s bench column p; lies = λ _. record { from = rw e; start = rw (e, half-first counts (p .named) e f) (sym (zero-mul (columnLength m b))); size = q } }
 
     pub show-second : column ≢ g .first → Places m k b map s bench column (InBench c c)
     show-second f =
         let one : half (map .places) column ≡ 1 = (let x = half-second counts (p .named) e f in let y = half-most p e in omega arith) in
-        record { told = passes m k b map s bench column p; lies = (e, rw one (q ∙ sym (one-mul (columnLength m b))), q) }
+        record { told = passes m k b map s bench column p; lies = λ _. record { from = rw e; start = rw (e, one) (q ∙ sym (one-mul (columnLength m b))); size = q } }
+
+-- what the answers say
+module _ {m k b : ℕ} {map : Map} {s bench : List ℕ} {column start n : ℕ} where
+  pub in-stripe : Places m k b map s bench column (InStripe start n) → (present (map .places) column ≡ true) × (start ≡ column * columnLength m b) × (n ≡ columnLength m b)
+  in-stripe h = go (present (map .places) column) refl
+    where
+      go : (p : Bool) → present (map .places) column ≡ p → (present (map .places) column ≡ true) × (start ≡ column * columnLength m b) × (n ≡ columnLength m b)
+      go true e = (e, rw e at (h .lies refl .start), h .lies refl .size)
+      go false e = absurd (let z : _≡_ {A = ℕ} 0 1 = rw e at (h .lies refl .from) in omega arith)
+
+  pub in-bench : Places m k b map s bench column (InBench start n)
+      → (present (map .places) column ≡ false) × (start ≡ half (map .places) column * columnLength m b) × (n ≡ columnLength m b)
+  in-bench h = go (present (map .places) column) refl
+    where
+      go : (p : Bool) → present (map .places) column ≡ p
+          → (present (map .places) column ≡ false) × (start ≡ half (map .places) column * columnLength m b) × (n ≡ columnLength m b)
+      go true e = absurd (let z : _≡_ {A = ℕ} 1 0 = rw e at (h .lies refl .from) in omega arith)
+      go false e = (e, rw e at (h .lies refl .start), h .lies refl .size)
 
 -- the end of part t of n parts of c bytes each
 part-end : (t n c : ℕ) → t < n → t * c + c ≤ n * c
@@ -144,13 +163,13 @@ module _ {m k b : ℕ} {map : Map} {s bench : List ℕ} {column start n : ℕ} w
   unfolding stripeLength
   stripe-fits h =
       let p = not-refused m k b map s bench column (h .told) in
-      let (_, at, size) = h .lies in
+      let (_, at, size) = in-stripe h in
       rw (at, size, p .stripe) (part-end column (k + 2) (columnLength m b) (p .named))
 
   pub bench-fits : Places m k b map s bench column (InBench start n) → start + n ≤ length bench
   unfolding benchLength
   bench-fits h =
       let p = not-refused m k b map s bench column (h .told) in
-      let (absent, at, size) = h .lies in
+      let (absent, at, size) = in-bench h in
       let most = half-most p absent in
       rw (at, size, p .held) (part-end (half (map .places) column) 2 (columnLength m b) (omega arith))

@@ -1,8 +1,10 @@
 -- What check answers. It reads only.
---   Checks        intact, by name, exactly when both counts are zero; broken, with the two counts; or refused: 1, 2
---   rowsOf, diagonalsOf   the counts that an answer stands for
---   Says         what an answer says of two counts
+--   verdictOf, rowsOf, diagonalsOf   the verdict of an answer, and its two counts: 0 where it is refused
+--   Counted   the counts are those of the rows and of the numbers whose equation breaks, and the stripe is called intact exactly when it is
+--   Checks    refused: 1, 2; passed: `Counted`
+--   Says      what an answer says of two counts
 use mathlib.Core.Path.{_≡_}
+use mathlib.Core.Logic.{_↔_}
 use mathlib.Core.List.{List}
 use Prim.Native.Nat.{ℕ}
 use lib.ListN.{length}
@@ -28,16 +30,17 @@ diagonalsOf checked.Intact = 0
 diagonalsOf (checked.Broken rows diagonals) = diagonals
 diagonalsOf (checked.Refused r) = 0
 
-abbrev pub Found : ℕ → ℕ → ℕ → List ℕ → Checked → Type 0
-Found m k b s checked.Intact = Intact m k b s
-Found m k b s (checked.Broken rows diagonals) = (Intact m k b s → ⊥) × (rows ≡ brokenRows m k b s) × (diagonals ≡ brokenDiagonals m k b s)
-Found m k b s (checked.Refused r) = Unit {0}
+pub record Counted (m k b : ℕ) (s : List ℕ) (r : Checked) : Type 0 where
+  pub rows : rowsOf r ≡ brokenRows m k b s
+  pub diagonals : diagonalsOf r ≡ brokenDiagonals m k b s
+  pub intact : (r ≡ checked.Intact) ↔ Intact m k b s
 
 pub record Checks (m k b : ℕ) (s : List ℕ) (r : Checked) : Type 0 where
   pub told : Gives (stripeRules m k b (length s)) (verdictOf r)
-  pub found : Found m k b s r
+  pub counted : verdictOf r ≡ pass → Counted m k b s r
 
-abbrev pub Says : Counts → Checked → Type 0
-Says c checked.Intact = (c .rows ≡ 0) × (c .diagonals ≡ 0)
-Says c (checked.Broken rows diagonals) = ((c .rows ≡ 0) × (c .diagonals ≡ 0) → ⊥) × (rows ≡ c .rows) × (diagonals ≡ c .diagonals)
-Says c (checked.Refused r) = ⊥
+pub record Says (c : Counts) (r : Checked) : Type 0 where
+  pub passed : verdictOf r ≡ pass
+  pub rows : rowsOf r ≡ c .rows
+  pub diagonals : diagonalsOf r ≡ c .diagonals
+  pub intact : (r ≡ checked.Intact) ↔ ((c .rows ≡ 0) × (c .diagonals ≡ 0))

@@ -1,6 +1,7 @@
 -- What mend answers and leaves.
---   Mends         intact: the stripe is valid and nothing is written; mended: the stripe is now a valid one that differed in exactly that
---                 column; refused: nothing is written
+--   verdictOf, columnOf   the verdict of an answer, and the column that it names: 129 for none
+--   Mends         refused: 1, 2, 6; passed: the stripe is now a valid one, and differed from it in exactly the column that is named. Where none is
+--                 named, the stripe being intact or refused, nothing is written.
 --   mendedBy      the answer that each suspect brings
 use mathlib.Core.Path.{_≡_}
 use mathlib.Core.List.{List}
@@ -21,20 +22,17 @@ verdictOf mended.Intact = pass
 verdictOf (mended.Column u) = pass
 verdictOf (mended.Refused r) = refuse r
 
--- the column that an answer names, 129 standing for none
 abbrev pub columnOf : Mended → ℕ
 columnOf mended.Intact = 129
 columnOf (mended.Column u) = u
 columnOf (mended.Refused r) = 129
 
-abbrev pub Rewritten : ℕ → ℕ → ℕ → List ℕ → List ℕ → Mended → Type 0
-Rewritten m k b before after mended.Intact = Valid m k b before × (after ≡ before)
-Rewritten m k b before after (mended.Column u) = (u < k + 2) × Valid m k b after × DifferIn m k b (eqb u) before after
-Rewritten m k b before after (mended.Refused r) = after ≡ before
-
 pub record Mends (m k b : ℕ) (before after : List ℕ) (r : Mended) : Type 0 where
   pub told : Gives (mendRules m k b before) (verdictOf r)
-  pub rewritten : Rewritten m k b before after r
+  pub valid : verdictOf r ≡ pass → Valid m k b after
+  pub differed : verdictOf r ≡ pass → DifferIn m k b (eqb (columnOf r)) before after
+  pub kept : columnOf r ≡ 129 → after ≡ before
+  pub named : (u : ℕ) → r ≡ mended.Column u → u < k + 2
 
 abbrev pub mendedBy : Suspect → Mended
 mendedBy Nothing = mended.Intact

@@ -1,7 +1,8 @@
 -- What restore answers and leaves in the bench. It speaks of valid stripes that agree, and of nothing else.
---   verdictOf      the verdict of an answer
+--   verdictOf, countOf, firstOf, secondOf   the verdict of an answer, how many columns were restored and their numbers; 0 129 129 where it is refused
 --   Benched        the bench holds columns `first` and `second` of v; of n columns restored, halves that hold none are as they were
---   Restores       how many columns are absent and their numbers, 129 for none, and the bench is that of a valid stripe that agrees
+--   RestoredFrom   n columns are absent, `first` and `second` are their numbers, 129 for none, and the bench is that of a valid stripe that agrees
+--   Restores       refused: 1, 2, 3, 9, 4, 5, and the bench is as it was; passed: `RestoredFrom`
 --   restoredBy     the answer where the gaps were filled, and where they could not be
 use mathlib.Core.Path.{_≡_}
 use mathlib.Core.Bool.{Bool, true, false, cond}
@@ -15,6 +16,7 @@ use Rattle.inputs.specs.declared.maps.Gaps.{Gaps}
 use Rattle.inputs.specs.declared.maps.Map.{Map}
 use Rattle.evenodd.specs.declared.restores.Restored.{Restored}
 use Rattle.evenodd.specs.declared.restores.Restored.the-variants.{Columns, Refused}
+use Rattle.inputs.specs.declared.shapes.Refusal.{Refusal}
 use Rattle.inputs.specs.declared.shapes.Refusal.the-variants.{Contradicted}
 use Rattle.inputs.specs.Refusals.{Verdict, pass, refuse, Gives}
 use Rattle.inputs.specs.Rules.{restoreRules}
@@ -23,6 +25,18 @@ use Rattle.inputs.specs.Absent.{NthAbsent}
 abbrev pub verdictOf : Restored → Verdict
 verdictOf (Columns n first second) = pass
 verdictOf (Refused r) = refuse r
+
+abbrev pub countOf : Restored → ℕ
+countOf (Columns n first second) = n
+countOf (Refused r) = 0
+
+abbrev pub firstOf : Restored → ℕ
+firstOf (Columns n first second) = first
+firstOf (Refused r) = 129
+
+abbrev pub secondOf : Restored → ℕ
+secondOf (Columns n first second) = second
+secondOf (Refused r) = 129
 
 pub record Benched (m b n first second : ℕ) (v before after : List ℕ) : Type 0 where
   pub size : length after ≡ length before
@@ -39,13 +53,10 @@ pub record RestoredFrom (m k b : ℕ) (map : List Bool) (s before after : List �
   pub other : NthAbsent (k + 2) 1 map second
   pub bench : Benched m b n first second stripe before after
 
-abbrev pub Left : ℕ → ℕ → ℕ → List Bool → List ℕ → List ℕ → List ℕ → Restored → Type 0
-Left m k b map s before after (Columns n first second) = RestoredFrom m k b map s before after n first second
-Left m k b map s before after (Refused r) = after ≡ before
-
 pub record Restores (m k b : ℕ) (map : Map) (s before after : List ℕ) (r : Restored) : Type 0 where
   pub told : Gives (restoreRules m k b map s (length before)) (verdictOf r)
-  pub left : Left m k b (map .places) s before after r
+  pub restored : verdictOf r ≡ pass → RestoredFrom m k b (map .places) s before after (countOf r) (firstOf r) (secondOf r)
+  pub kept : (f : Refusal) → verdictOf r ≡ refuse f → after ≡ before
 
 abbrev pub restoredBy : Gaps → Bool → Restored
 restoredBy gaps true = Columns (gaps .count) (gaps .first) (gaps .second)

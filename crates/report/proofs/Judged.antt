@@ -108,8 +108,8 @@ module _ {image s filled bench after : List ℕ} {shape : Shape} {map : Map} (f 
       → JudgesParts shape map image s filled bench after (outcome.Complete shape)
   parts-complete {n} {x} {y} r = record {
     read = h;
-    told = gives-next (λ none. none (r .left .stripe) (r .left .valid) (r .left .agrees)) refl;
-    benches = (refl, record { count = n; first = x; second = y; restored = r .left });
+    told = let from = r .restored refl in gives-next (λ none. none (from .stripe) (from .valid) (from .agrees)) refl;
+    benches = (refl, record { count = n; first = x; second = y; restored = r .restored refl });
   }
 
   pub parts-contradicted : length s ≡ stripeOf shape → length bench ≡ benchOf shape → absences (shape .k) (map .places) ≤ 2 → (e : Refusal)
@@ -122,7 +122,7 @@ module _ {image s filled bench after : List ℕ} {shape : Shape} {map : Map} (f 
         told = go (gives-rest (gapRules (shape .m) (shape .k) (shape .b) map (length filled) (length bench)) (contradicted (shape .m) (shape .k) (shape .b) map filled ∷ []) _
             (gaps-passed (shape .m) (shape .k) (shape .b) (length filled) map (length bench) (record { shape = g .shape; stripe = h .size ∙ long; held = room; clear = not-stray g }) few)
             (r .told));
-        benches = (refl, r .left);
+        benches = (refl, r .kept e refl);
       }
     where
       go : {C : Type 0} → (C × (refuse e ≡ refuse refusal.Contradicted)) ⊎ ((C → ⊥) × (refuse e ≡ pass))

@@ -19,7 +19,7 @@ use Rattle.inputs.specs.Refusals.{pass, refuse}
 use Rattle.inputs.specs.Rules.{showRules}
 use Rattle.evenodd.specs.Shows.{half, Places, PartAt, Shows}
 use Rattle.inputs.proofs.Rules.{passes-not, gives-one}
-use Rattle.evenodd.proofs.Shown.{passes, stripe-fits, bench-fits}
+use Rattle.evenodd.proofs.Shown.{passes, in-stripe, in-bench, stripe-fits, bench-fits}
 use Rattle.report.specs.Shown.{columnOf, shown, Held}
 use Rattle.report.specs.Lines.{columnLine, columnLines}
 
@@ -37,11 +37,11 @@ module _ {m k b : ℕ} {map : Map} (s bench : RefT (List ℕ)) (held : Held m k 
       → (now r ≡ shown m b (map .places) (now s) (now bench) t) × (length (now r) ≡ columnLength m b)
   unfolding shown
   placed (InStripe start n) h part =
-      let (there, at, size) = h .lies in
+      let (there, at, size) = in-stripe h in
       let (same, long) = part-column m b t (now s) (now r) start n (part .bytes) at size (stripe-fits h) in
       (rw there same, long)
   placed (InBench start n) h part =
-      let (absent, at, size) = h .lies in
+      let (absent, at, size) = in-bench h in
       let (same, long) = part-column m b (half (map .places) t) (now bench) (now r) start n (part .bytes) at size (bench-fits h) in
       (rw absent same, long)
   placed (Refused f) h part =

@@ -76,9 +76,9 @@ module _ {image : List ℕ} (s bench : List ℕ) {shape : Shape} {map : Map} (f 
   restores : (x y : List ℕ) (o : Outcome) → length x ≡ length s → Gives (partRules shape map x) (verdictOf o) → Benches shape map x bench y o
       → (r : Restored) × Restores (shape .m) (shape .k) (shape .b) map x bench y r × (o ≡ outcomeBy shape r)
   restores x y (outcome.Complete z) e told (same, c) =
-      (restored.Columns (c .count) (c .first) (c .second), record { told = rules e told; left = c .restored }, ap outcome.Complete same)
+      (restored.Columns (c .count) (c .first) (c .second), record { told = rules e told; restored = λ _. c .restored; kept = λ g q. absurd (passes-not g q) }, ap outcome.Complete same)
   restores x y (outcome.Contradicted z) e told (same, c) =
-      (restored.Refused refusal.Contradicted, record { told = rules e told; left = c }, ap outcome.Contradicted same)
+      (restored.Refused refusal.Contradicted, record { told = rules e told; restored = λ q. absurd (passes-not refusal.Contradicted (sym q)); kept = λ _ _. c }, ap outcome.Contradicted same)
   restores x y (outcome.Ambiguous z) e told b = absurd b
   restores x y (outcome.Refused g) e told b = absurd b
 

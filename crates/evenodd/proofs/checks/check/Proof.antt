@@ -1,9 +1,11 @@
 -- `evenodd::checks::check` meets its contract: the tests, and the counts of the loops below.
+use mathlib.Core.Path.{sym}
 use mathlib.Core.List.{[]}
 use lib.ListN.{length}
 use denote.Ref.{now}
 use Rattle.lines.proofs.Whole.{sized}
 use Rattle.inputs.specs.Rules.{stripeRules}
+use Rattle.inputs.proofs.Rules.{passes-not}
 use Rattle.inputs.proofs.Tests.{told-refused, Numbers, stripe-good, stripe-long}
 use Rattle.inputs.proofs.Stripe.{stripe-passed}
 use Rattle.evenodd.proofs.Checked.{says-checks}
@@ -30,7 +32,7 @@ returns : tie.Need-returns
 returns c =
     let at = c .before .before .before in
     let a = at .before .before .args in
-    record { told = told-refused (stripeRules (a .m) (a .k) (a .b) (length (now (a .stripe)))) [] (at .judge-stripe .result) (at .judge-stripe .ensures .told) (c .before .enum-told .given .1) (c .refusal .ensures); found = tt }
+    record { told = told-refused (stripeRules (a .m) (a .k) (a .b) (length (now (a .stripe)))) [] (at .judge-stripe .result) (at .judge-stripe .ensures .told) (c .before .enum-told .given .1) (c .refusal .ensures); counted = λ e. absurd (passes-not _ (sym e)) }
 
 count-broken-requires : tie.Need-count-broken-requires
 count-broken-requires c κs = let n = good c in (sized (n .shape) (n .column), n .shape .few, stripe-long n)

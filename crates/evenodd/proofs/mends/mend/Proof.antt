@@ -9,7 +9,7 @@ use Rattle.parity.specs.Stripe.{Stripe}
 use Rattle.evenodd.specs.Mends.{Mends}
 use Rattle.inputs.specs.Rules.{unmendable, stripeRules}
 use Rattle.inputs.proofs.Tests.{told-refused, Numbers, stripe-good}
-use Rattle.evenodd.proofs.Mended.{mend-answer}
+use Rattle.evenodd.proofs.Mended.{mend-refused, mend-answer}
 use Rattle.evenodd.proofs.mends.mend.Statement.{statement}
 use Rattle.evenodd.proofs.mends.mend.Tie as tie
 
@@ -37,11 +37,8 @@ returns : tie.Need-returns
 returns c =
     let at = c .before .before .before in
     let a = at .before .before .args in
-    record {
-      told = told-refused (stripeRules (a .m) (a .k) (a .b) (length (now (a .stripe)))) (unmendable (a .m) (a .k) (a .b) (now (a .stripe)) ∷ [])
-          (at .judge-stripe .result) (at .judge-stripe .ensures .told) (c .before .enum-told .given .1) (c .refusal .ensures);
-      rewritten = refl;
-    }
+    mend-refused _ _ _ _ _ (told-refused (stripeRules (a .m) (a .k) (a .b) (length (now (a .stripe)))) (unmendable (a .m) (a .k) (a .b) (now (a .stripe)) ∷ [])
+    (at .judge-stripe .result) (at .judge-stripe .ensures .told) (c .before .enum-told .given .1) (c .refusal .ensures)) refl
 
 amend-requires : tie.Need-amend-requires
 amend-requires c κs = let n = good (c .before) in record { shape = n .shape; column = n .column; stripe = n .stripe }
