@@ -1,7 +1,7 @@
 -- Laws of the presence map's places.
 --   past-all                   a place past the last is not present
 --   absences-below, below-..   how many places below a place are absent
---   nth-one, others-present    there is one absent place with so many below it; of at most two absent places the others are present
+--   nth-one, absent-nth, others-present    there is one absent place with so many below it, and each is such a place; of at most two absent places the others are present
 --   counts-..                  the gaps below 0, and below t + 1 where those below t are known
 use mathlib.Core.Path.{_≡_, refl, sym, ap, _∙_}
 use mathlib.Core.Bool.{Bool, true, false, not}
@@ -65,7 +65,7 @@ nth-one n j map t u p q = by-cases (decLt j (absentBelow n map))
     (λ c. by-cases (decLt u t) (λ d. absurd (let z = below-under map u t (y .1) d in omega (arith, x .2, y .2))) (λ d. omega arith)))
     (λ l. p .none (omega arith) ∙ sym (q .none (omega arith)))
 
-absent-nth : (n : ℕ) (map : List Bool) (t : ℕ) → t < n → present map t ≡ false → NthAbsent n (absentBelow t map) map t
+pub absent-nth : (n : ℕ) (map : List Bool) (t : ℕ) → t < n → present map t ≡ false → NthAbsent n (absentBelow t map) map t
 absent-nth n map t l e = record { found = λ _. (l, e, refl); none = λ h. absurd (let z = below-under map t n e l in omega arith) }
 
 -- of at most two absent places below n, the others are present
