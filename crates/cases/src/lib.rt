@@ -1,4 +1,5 @@
-// The document's cases C1 to C11. C1 is the stripe of m = 3, k = 3, b = 1 with the data 01 02, 04 08, 10 20.
+// The document's cases C1 to C11, as lines of text; each function answers the place after its lines, which have a greatest length. C1 is the stripe of m = 3,
+// k = 3, b = 1 with the data 01 02, 04 08, 10 20.
 use evenodd::Map;
 use say::check_line;
 use say::encode_line;
@@ -6,9 +7,15 @@ use say::mend_line;
 use say::restore_line;
 use words::say_bytes;
 use words::say_word;
+ghost use mathlib.Core.Path.{_≡_};
+ghost use Prim.Native.Nat.{ℕ, _+_, _≤_};
+ghost use lib.Dec.{ltb};
+ghost use Rattle.parity.specs.Presence.{present};
 
 // The map of the five columns of C1, all present.
-pub fn five() -> Map {
+pub fn five() -> Map
+    ensures { λ r. ⌜ ((t : ℕ) → present (r .places) t ≡ ltb t 5) ⌝ }
+{
     Map::new()
         .mark_present(0)
         .mark_present(1)
@@ -18,7 +25,9 @@ pub fn five() -> Map {
 }
 
 // The sum S, which is the sum of all cells of H and of D.
-fn sum_line(out: &mut [u8], at: usize, h0: u8, h1: u8, d0: u8, d1: u8) -> usize {
+fn sum_line(out: &mut [u8], at: usize, h0: u8, h1: u8, d0: u8, d1: u8) -> usize
+    ensures { λ r. ⌜ (at ≤ r) × (r ≤ at + 206) ⌝ }
+{
     let first = say_word(out, at, b"C1 S");
     let sum = [h0 ^ h1 ^ d0 ^ d1];
     let second = say_bytes(out, first, &sum);
@@ -26,7 +35,9 @@ fn sum_line(out: &mut [u8], at: usize, h0: u8, h1: u8, d0: u8, d1: u8) -> usize 
 }
 
 // C1 to C3: encode.
-pub fn encodings(out: &mut [u8], at: usize) -> usize {
+pub fn encodings(out: &mut [u8], at: usize) -> usize
+    ensures { λ r. ⌜ (at ≤ r) × (r ≤ at + 854) ⌝ }
+{
     let mut c1 = [1u8, 2, 4, 8, 16, 32, 0, 0, 0, 0];
     let first = encode_line(out, at, b"C1", 3, 3, 1, &mut c1);
     let second = sum_line(out, first, c1[6], c1[7], c1[8], c1[9]);
@@ -66,7 +77,9 @@ pub fn encodings(out: &mut [u8], at: usize) -> usize {
 }
 
 // C4 and C5: restore two columns, whose bytes in the stripe are stale.
-pub fn two_absent(out: &mut [u8], at: usize) -> usize {
+pub fn two_absent(out: &mut [u8], at: usize) -> usize
+    ensures { λ r. ⌜ (at ≤ r) × (r ≤ at + 464) ⌝ }
+{
     let c4 = [
         255u8,
         255,
@@ -117,7 +130,9 @@ pub fn two_absent(out: &mut [u8], at: usize) -> usize {
 }
 
 // C6 to C8: C1 with 04 turned to 05.
-pub fn wrong_byte(out: &mut [u8], at: usize) -> usize {
+pub fn wrong_byte(out: &mut [u8], at: usize) -> usize
+    ensures { λ r. ⌜ (at ≤ r) × (r ≤ at + 707) ⌝ }
+{
     let mut stripe = [1u8, 2, 5, 8, 16, 32, 21, 42, 57, 30];
     let mut bench = [161u8, 162, 163, 164];
     let one = five().mark_absent(0);
@@ -129,14 +144,18 @@ pub fn wrong_byte(out: &mut [u8], at: usize) -> usize {
 }
 
 // C9: a wrong column that is none of the stripe's.
-pub fn imaginary_column(out: &mut [u8], at: usize) -> usize {
+pub fn imaginary_column(out: &mut [u8], at: usize) -> usize
+    ensures { λ r. ⌜ (at ≤ r) × (r ≤ at + 243) ⌝ }
+{
     let mut c9 = [1u8, 2, 4, 8, 21, 10, 25, 30];
     let next = check_line(out, at, b"C9", 3, 2, 1, &c9);
     mend_line(out, next, b"C9", 3, 2, 1, &mut c9)
 }
 
 // C10 and C11: three columns absent, and an intact stripe.
-pub fn three_absent(out: &mut [u8], at: usize) -> usize {
+pub fn three_absent(out: &mut [u8], at: usize) -> usize
+    ensures { λ r. ⌜ (at ≤ r) × (r ≤ at + 478) ⌝ }
+{
     let c1 = [1u8, 2, 4, 8, 16, 32, 21, 42, 57, 30];
     let mut bench = [161u8, 162, 163, 164];
     let map = five().mark_absent(0).mark_absent(1).mark_absent(2);

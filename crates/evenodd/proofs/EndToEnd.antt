@@ -1,52 +1,140 @@
 -- What follows from the promises alone, from end to end: the statements of specs/EndToEnd.
 use mathlib.Core.Path.{_≡_, refl, sym, ap, _∙_}
-use mathlib.Core.Logic.{_≢_, by-cases}
-use mathlib.Core.Bool.{Bool, true, false}
-use mathlib.Core.List.{List}
-use Prim.Native.Nat.{ℕ, _+_, _≤_}
-use native.Mathlib.Decide.{ℕ-discrete}
+use mathlib.Core.Logic.{_≢_, inl, inr, by-cases}
+use mathlib.Core.Bool.{Bool, true, false, cond}
+use mathlib.Core.List.{List, [], _∷_}
+use Prim.Native.Nat.{ℕ, _+_, _-_, _≤_, _<_}
+use native.Mathlib.Decide.{ℕ-discrete, decLt}
 use native.Mathlib.Omega.{arith}
 use lib.Dec.{eqb}
 use lib.ListN.{length}
-use borrow.Author.Tests.{eq-eqb, ne-eqb}
+use borrow.Author.Tests.{lt-ltb, eq-eqb, ne-eqb}
 use Rattle.parity.specs.Shape.{Shape}
-use Rattle.parity.specs.Stripe.{Valid}
-use Rattle.parity.specs.Presence.{differs, differing, DifferIn, Agrees}
-use Rattle.parity.specs.Theorems.{AtMostOne, OneWrong}
+use Rattle.parity.specs.Stripe.{byte, Valid}
+use Rattle.parity.specs.Presence.{present, absences, differs, differing, DifferIn, Agrees}
+use Rattle.parity.specs.Theorems.{AtMostOne, NeverOne, OneWrong}
 use Rattle.parity.proofs.Bytes.{stripe-ext}
 use Rattle.parity.proofs.Columns.{same-column, column-same}
 use Rattle.parity.proofs.Count.{few-pass}
-use Rattle.parity.proofs.Theorems.{at-most-one, one-wrong, near}
-use Rattle.rebuild.specs.declared.mending.Mended.{Mended}
-use Rattle.rebuild.specs.declared.mending.Mended.the-variants as mended
-use Rattle.rebuild.specs.declared.restoring.Restored.the-variants as restored
-use Rattle.inputs.specs.Refusals.{pass}
-use Rattle.rebuild.specs.Restores.{restoreRules, benchRules}
-use Rattle.rebuild.specs.Mends.{mendRules, blameRules, Mends}
-use Rattle.inputs.specs.Shapes.{stripeRules}
-use Rattle.evenodd.specs.EndToEnd.{RestoreGivesBack, MendGivesBack}
-use Rattle.inputs.proofs.Rules.{passes-not, gives-one, gives-next, gives-after}
-use Rattle.inputs.proofs.Shape.{after-shape}
+use Rattle.parity.proofs.Theorems.{at-most-one, never-one, one-wrong, near}
+use Rattle.inputs.specs.declared.shapes.Refusal.{Refusal}
+use Rattle.inputs.specs.declared.shapes.Refusal.the-variants.{Ambiguous, Contradicted}
+use Rattle.inputs.specs.Refusals.{numberOf, pass, refuse, Gives}
+use Rattle.inputs.specs.Absent.{absentBelow}
+use Rattle.inputs.specs.Rules.{tooManyAbsent, contradicted, unmendable, stripeRules, lentRules, gapRules, mendRules, restoreRules}
+use Rattle.inputs.proofs.Absent.{absences-below, below-under, nth-one, absent-nth}
+use Rattle.inputs.proofs.Rules.{passes-not, refuse-one, gives-one, gives-next, gives-after, gives-rest}
 use Rattle.inputs.proofs.Stripe.{stripe-given, stripe-passed}
-use Rattle.rebuild.proofs.Determined.{not-one}
+use Rattle.inputs.proofs.Tests.{lent-passed, gaps-passed}
+use Rattle.evenodd.specs.declared.mends.Mended.{Mended}
+use Rattle.evenodd.specs.declared.mends.Mended.the-variants as mended
+use Rattle.evenodd.specs.declared.restores.Restored.{Restored}
+use Rattle.evenodd.specs.declared.restores.Restored.the-variants as restored
+use Rattle.evenodd.specs.Mends.{Mends}
+use Rattle.evenodd.specs.Restores.{verdictOf, RestoredFrom}
+use Rattle.evenodd.specs.Shows.{half}
+use Rattle.evenodd.specs.EndToEnd.{Fits, FitsAlone, Together, GivesTheOne, OneOrNothing, RestoreGivesBack, MendGivesBack}
+use Rattle.evenodd.proofs.Determined.{not-one}
+use Rattle.evenodd.proofs.Mended.{intact-valid}
 
 agrees-back : (m k b : ℕ) (map : List Bool) (s v : List ℕ) → Agrees m k b map s v → Agrees m k b map v s
 agrees-back m k b map s v a = record { at = λ t ht p. column-same m b v s t (λ l i hl hi. sym (same-column m b s v t (a .at t ht p) l i hl hi)) }
 
+-- ---- one, or nothing
+
+-- stripe and bench together are the stripe that the bench is of
+module _ {m k b : ℕ} {map : List Bool} {s before after : List ℕ} {n first second : ℕ} (few : absences k map ≤ 2) (u : RestoredFrom m k b map s before after n first second) where
+  together : Together m k b map s after (u .stripe)
+  unfolding half
+  together = record { at = λ l i t hl hi ht. go l i t hl hi ht (present map t) refl }
+    where
+      go : (l i t : ℕ) → l < b → i < m - 1 → t < k + 2 → (p : Bool) → present map t ≡ p
+          → byte m b (u .stripe) l i t ≡ cond (present map t) (byte m b s l i t) (byte m b after l i (half map t))
+      go l i t hl hi ht true e = rw e (sym (same-column m b s (u .stripe) t (u .agrees .at t ht e) l i hl hi))
+      go l i t hl hi ht false e =
+          let under = below-under map t (k + 2) e ht in
+          let all = absences-below k map in
+          let counted = u .counted in
+          let here = absent-nth (k + 2) map t ht e in
+          rw e (by-cases (decLt 0 (absentBelow t map))
+          (λ c.
+          let z : absentBelow t map ≡ 1 = omega arith in
+          let same : t ≡ second = nth-one (k + 2) 1 map t second (rw z at here) (u .other) in
+          rw (z, same) (sym (rw (lt-ltb 1 n (omega arith)) at (u .bench .half1 l i hl hi))))
+          (λ c.
+          let z : absentBelow t map ≡ 0 = omega arith in
+          let same : t ≡ first = nth-one (k + 2) 0 map t first (rw z at here) (u .lowest) in
+          rw (z, same) (sym (rw (lt-ltb 0 n (omega arith)) at (u .bench .half0 l i hl hi)))))
+
+-- an answer whose verdict is a refusal is that refusal
+refused-by : (r : Restored) {f : Refusal} → verdictOf r ≡ refuse f → r ≡ restored.Refused f
+refused-by (restored.Columns n x y) {f} e = absurd (passes-not f e)
+refused-by (restored.Refused g) {f} e = ap restored.Refused (refuse-one g f e)
+
+other-refusal : refuse Ambiguous ≡ refuse Contradicted → ⊥
+other-refusal e = let n = ap numberOf (refuse-one Ambiguous Contradicted e) in omega arith
+
+pub one-or-nothing : OneOrNothing
+unfolding OneOrNothing AtMostOne NeverOne
+one-or-nothing m k b map s before after r a p = go decided
+  where
+    decided : Gives (tooManyAbsent k map ∷ contradicted m k b map s ∷ []) (verdictOf r)
+    decided =
+        gives-rest (lentRules m k b map (length s) (length before)) (tooManyAbsent k map ∷ contradicted m k b map s ∷ []) (verdictOf r)
+        (lent-passed m k b (length s) map (length before) (record { shape = a .shape; stripe = a .stripe .whole; held = a .held; clear = a .clear })) (p .told)
+
+    -- the verdict of a refusal that r is
+    verdict : {f : Refusal} → r ≡ restored.Refused f → verdictOf r ≡ refuse f
+    verdict e = ap verdictOf e
+
+    go : Gives (tooManyAbsent k map ∷ contradicted m k b map s ∷ []) (verdictOf r) → GivesTheOne m k b (map .places) s before after r
+    go (inl (many, e)) =
+        let (v, w, vv, vw, av, aw, ne) = never-one m k b (a .shape) (map .places) many s (a .stripe) in
+        let alone : (x : List ℕ) → FitsAlone m k b (map .places) s x → ⊥ = λ x o. ne (o .only v (record { valid = vv; agrees = av }) ∙ sym (o .only w (record { valid = vw; agrees = aw }))) in
+        record {
+          given = (λ q. absurd (passes-not Ambiguous (sym q ∙ e)), λ o. absurd (alone (o .0) (o .1)));
+          together = λ x o. absurd (alone x o);
+          ambiguous = (λ _. record { one = v; other = w; first = record { valid = vv; agrees = av }; second = record { valid = vw; agrees = aw }; different = ne }, λ _. refused-by r e);
+          contradicted = (λ q. absurd (other-refusal (sym e ∙ verdict q)), λ none. absurd (none v (record { valid = vv; agrees = av })));
+          refused = λ f q. (inl (refuse-one f Ambiguous (sym (verdict q) ∙ e)), p .kept Ambiguous e);
+        }
+    go (inr (_, inl (none, e))) = record {
+      given = (λ q. absurd (passes-not Contradicted (sym q ∙ e)), λ o. absurd (none (o .0) (o .1 .fits .valid) (o .1 .fits .agrees)));
+      together = λ x o. absurd (none x (o .fits .valid) (o .fits .agrees));
+      ambiguous = (λ q. absurd (other-refusal (sym (verdict q) ∙ e)), λ two. absurd (none (two .one) (two .first .valid) (two .first .agrees)));
+      contradicted = (λ _ v f. none v (f .valid) (f .agrees), λ _. refused-by r e);
+      refused = λ f q. (inr (refuse-one f Contradicted (sym (verdict q) ∙ e)), p .kept Contradicted e);
+    }
+    go (inr (not-many, inr (_, e))) =
+        let few : absences k (map .places) ≤ 2 = omega arith in
+        let u = p .restored e in
+        let fits : Fits m k b (map .places) s (u .stripe) = record { valid = u .valid; agrees = u .agrees } in
+        let one : (v w : List ℕ) → Fits m k b (map .places) s v → Fits m k b (map .places) s w → v ≡ w
+        = λ v w x y. at-most-one m k b (a .shape) (map .places) few s v w (x .valid) (y .valid) (x .agrees) (y .agrees) in
+        record {
+          given = (λ _. (u .stripe, record { fits = fits; only = λ w x. one w (u .stripe) x fits }), λ _. e);
+          together = λ v o. rw (one v (u .stripe) (o .fits) fits) (together few u);
+          ambiguous = (λ q. absurd (passes-not Ambiguous (sym e ∙ verdict q)), λ two. absurd (two .different (one (two .one) (two .other) (two .first) (two .second))));
+          contradicted = (λ q. absurd (passes-not Contradicted (sym e ∙ verdict q)), λ none. absurd (none (u .stripe) fits));
+          refused = λ f q. absurd (passes-not f (sym e ∙ verdict q));
+        }
+
+-- ---- what was encoded comes back
+
 pub restore-gives-back : RestoreGivesBack
 unfolding RestoreGivesBack AtMostOne
 restore-gives-back m k b map fresh s lost before after (restored.Columns n f g) enc same agrees held clear few p =
-    let (h, _) = stripe-given m k b fresh (enc .told) in
-    let u = p .left in
+    let (h, _) = stripe-given m k b (length fresh) (enc .told) in
+    let u = p .restored refl in
     let e : u .stripe ≡ s = at-most-one m k b h (map .places) few lost (u .stripe) s (u .valid) (enc .written .0) (u .agrees) (agrees-back m k b (map .places) s lost agrees) in
-    record { count = n; first = f; second = g; answer = refl; bench = rw e at (u .bench) }
+    record { passed = refl; bench = rw e at (u .bench) }
 restore-gives-back m k b map fresh s lost before after (restored.Refused r) enc same agrees held clear few p =
-    let (h, _) = stripe-given m k b fresh (enc .told) in
+    let (h, _) = stripe-given m k b (length fresh) (enc .told) in
     let size : length lost ≡ _ = same ∙ enc .written .0 .stripe .whole in
-    absurd (passes-not r (gives-one (restoreRules m k b map lost before) _ _
-    (after-shape m k b (benchRules m k b map lost before) pass h
-    (gives-next (λ c. c size) (gives-next (λ c. c held) (gives-next clear (gives-next (λ c. omega arith)
-    (gives-next (λ c. c s (enc .written .0) (agrees-back m k b (map .places) s lost agrees)) refl))))))
+    absurd (passes-not r (gives-one (restoreRules m k b map lost (length before)) _ _
+    (gives-after (gapRules m k b map (length lost) (length before)) (contradicted m k b map lost ∷ []) pass
+    (gaps-passed m k b (length lost) map (length before) (record { shape = h; stripe = size; held = held; clear = clear }) few)
+    (gives-next (λ c. c s (enc .written .0) (agrees-back m k b (map .places) s lost agrees)) refl))
     (p .told)))
 
 pub mend-gives-back : MendGivesBack
@@ -54,7 +142,7 @@ unfolding MendGivesBack OneWrong differing
 mend-gives-back m k b u fresh s wrong after r enc st hu only p = go r p
   where
     h : Shape m k b
-    h = stripe-given m k b fresh (enc .told) .0
+    h = stripe-given m k b (length fresh) (enc .told) .0
 
     valid : Valid m k b s
     valid = enc .written .0
@@ -74,16 +162,16 @@ mend-gives-back m k b u fresh s wrong after r enc st hu only p = go r p
 
     go : (r : Mended) → Mends m k b wrong after r → (after ≡ s) × (wrong ≡ s → r ≡ mended.Intact) × (wrong ≢ s → r ≡ mended.Column u)
     go mended.Intact p =
-        let e : wrong ≡ s = near m k b h wrong s (p .rewritten .0) valid (omega (arith, few)) in
-        (p .rewritten .1 ∙ e, λ _. refl, λ ne. absurd (ne e))
+        let e : wrong ≡ s = near m k b h wrong s (intact-valid p) valid (omega (arith, few)) in
+        (p .kept refl ∙ e, λ _. refl, λ ne. absurd (ne e))
     go (mended.Column v) p = pick (differs m b wrong s u) refl
       where
         pick : (d : Bool) → differs m b wrong s u ≡ d → (after ≡ s) × (wrong ≡ s → mended.Column v ≡ mended.Intact) × (wrong ≢ s → mended.Column v ≡ mended.Column u)
         pick true e =
-            let (a, c) = one-wrong m k b h wrong after s v u (p .rewritten .0) hu (p .rewritten .1) valid (p .rewritten .2) (differ e) in
-            (c, λ q. absurd (not-one m k b h wrong after v (p .rewritten .0) (rw q valid) (p .rewritten .1) (p .rewritten .2)), λ _. ap mended.Column a)
-        pick false e = absurd (not-one m k b h wrong after v (p .rewritten .0) (rw (same e) valid) (p .rewritten .1) (p .rewritten .2))
+            let (a, c) = one-wrong m k b h wrong after s v u (p .named v refl) hu (p .valid refl) valid (p .differed refl) (differ e) in
+            (c, λ q. absurd (not-one m k b h wrong after v (p .named v refl) (rw q valid) (p .valid refl) (p .differed refl)), λ _. ap mended.Column a)
+        pick false e = absurd (not-one m k b h wrong after v (p .named v refl) (rw (same e) valid) (p .valid refl) (p .differed refl))
     go (mended.Refused f) p =
         absurd (passes-not f (gives-one (mendRules m k b wrong) _ _
-        (gives-after (stripeRules m k b wrong) (blameRules m k b wrong) pass (stripe-passed m k b wrong h (st .whole)) (gives-next (λ c. c s valid few) refl))
+        (gives-after (stripeRules m k b (length wrong)) (unmendable m k b wrong ∷ []) pass (stripe-passed m k b (length wrong) h (st .whole)) (gives-next (λ c. c s valid few) refl))
         (p .told)))

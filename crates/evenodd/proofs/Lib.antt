@@ -1,1 +1,7 @@
+-- Laws that belong to no one function.
+pub mod Checked
+pub mod Restored
+pub mod Mended
+pub mod Shown
+pub mod Determined
 pub mod EndToEnd

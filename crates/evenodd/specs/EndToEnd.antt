@@ -1,33 +1,81 @@
 -- What follows from the promises alone, from end to end. Each statement is a type, which proofs/EndToEnd inhabits.
+--   OneOrNothing       if exactly one valid stripe agrees with the columns that are present, restore gives it: stripe and bench together are that one.
+--                      Otherwise it gives nothing, and says why: 4 exactly when two different ones agree, 5 exactly when none does
 --   RestoreGivesBack   encode, lose at most two columns, whatever stands in their places: restore gives them back
 --   MendGivesBack      encode, change one column in any way, or in none: mend gives the stripe back, and names the column if it was changed
 use mathlib.Core.Path.{_≡_}
-use mathlib.Core.Logic.{_≢_}
-use mathlib.Core.Bool.{false}
+use mathlib.Core.Logic.{_≢_, _↔_, _⊎_}
+use mathlib.Core.Bool.{Bool, false, cond}
 use mathlib.Core.List.{List}
-use Prim.Native.Nat.{ℕ, _+_, _≤_, _<_}
+use Prim.Native.Nat.{ℕ, _+_, _-_, _≤_, _<_}
 use lib.ListN.{length}
-use Rattle.parity.specs.Shape.{benchLength}
-use Rattle.parity.specs.Stripe.{Stripe}
-use Rattle.parity.specs.Presence.{absences, differs, Agrees}
-use Rattle.coding.specs.declared.encoding.Encoded.the-variants as encoded
+use Rattle.parity.specs.Shape.{Shape, benchLength}
+use Rattle.parity.specs.Stripe.{byte, Stripe, Valid}
+use Rattle.parity.specs.Presence.{present, absences, differs, Agrees}
 use Rattle.inputs.specs.declared.maps.Map.{Map}
-use Rattle.rebuild.specs.declared.mending.Mended.{Mended}
-use Rattle.rebuild.specs.declared.mending.Mended.the-variants as mended
-use Rattle.rebuild.specs.declared.restoring.Restored.{Restored}
-use Rattle.rebuild.specs.declared.restoring.Restored.the-variants as restored
-use Rattle.inputs.specs.Maps.{Stray}
-use Rattle.coding.specs.Encodes.{Encodes}
-use Rattle.rebuild.specs.Restores.{Benched, Restores}
-use Rattle.rebuild.specs.Mends.{Mends}
+use Rattle.inputs.specs.declared.shapes.Refusal.{Refusal}
+use Rattle.inputs.specs.declared.shapes.Refusal.the-variants.{Ambiguous, Contradicted}
+use Rattle.inputs.specs.Refusals.{pass}
+use Rattle.inputs.specs.Absent.{Stray}
+use Rattle.evenodd.specs.declared.encodes.Encoded.the-variants as encoded
+use Rattle.evenodd.specs.declared.mends.Mended.{Mended}
+use Rattle.evenodd.specs.declared.mends.Mended.the-variants as mended
+use Rattle.evenodd.specs.declared.restores.Restored.{Restored}
+use Rattle.evenodd.specs.declared.restores.Restored.the-variants as restored
+use Rattle.evenodd.specs.Encodes.{Encodes}
+use Rattle.evenodd.specs.Restores.{verdictOf, countOf, firstOf, secondOf, Benched, Restores}
+use Rattle.evenodd.specs.Mends.{Mends}
+use Rattle.evenodd.specs.Shows.{half}
+
+-- v is a valid stripe that agrees with the columns of s that are present
+pub record Fits (m k b : ℕ) (map : List Bool) (s v : List ℕ) : Type 0 where
+  pub valid : Valid m k b v
+  pub agrees : Agrees m k b map s v
+
+-- v does, and no other
+pub record FitsAlone (m k b : ℕ) (map : List Bool) (s v : List ℕ) : Type 0 where
+  pub fits : Fits m k b map s v
+  pub only : (w : List ℕ) → Fits m k b map s w → w ≡ v
+
+-- two different ones do
+pub record TwoFit (m k b : ℕ) (map : List Bool) (s : List ℕ) : Type 0 where
+  pub one : List ℕ
+  pub other : List ℕ
+  pub first : Fits m k b map s one
+  pub second : Fits m k b map s other
+  pub different : one ≢ other
+
+-- none does
+abbrev pub NoneFits : ℕ → ℕ → ℕ → List Bool → List ℕ → Type 0
+NoneFits m k b map s = (v : List ℕ) → Fits m k b map s v → ⊥
+
+-- stripe and bench together are v: a present column stands in the stripe, and an absent one in the half of the bench where restore puts it
+pub record Together (m k b : ℕ) (map : List Bool) (s bench v : List ℕ) : Type 0 where
+  pub at : (l i t : ℕ) → l < b → i < m - 1 → t < k + 2
+      → byte m b v l i t ≡ cond (present map t) (byte m b s l i t) (byte m b bench l i (half map t))
+
+-- a good shape, a stripe and a bench of its lengths, and a map without strays
+pub record Asked (m k b : ℕ) (map : Map) (s bench : List ℕ) : Type 0 where
+  pub shape : Shape m k b
+  pub stripe : Stripe m k b s
+  pub held : length bench ≡ benchLength m b
+  pub clear : Stray k (map .places) → ⊥
+
+pub record GivesTheOne (m k b : ℕ) (map : List Bool) (s before after : List ℕ) (r : Restored) : Type 0 where
+  pub given : (verdictOf r ≡ pass) ↔ ((v : List ℕ) × FitsAlone m k b map s v)
+  pub together : (v : List ℕ) → FitsAlone m k b map s v → Together m k b map s after v
+  pub ambiguous : (r ≡ restored.Refused Ambiguous) ↔ TwoFit m k b map s
+  pub contradicted : (r ≡ restored.Refused Contradicted) ↔ NoneFits m k b map s
+  pub refused : (f : Refusal) → r ≡ restored.Refused f → ((f ≡ Ambiguous) ⊎ (f ≡ Contradicted)) × (after ≡ before)
+
+unfoldable pub OneOrNothing : Type 0
+OneOrNothing = (m k b : ℕ) (map : Map) (s before after : List ℕ) (r : Restored) → Asked m k b map s before
+    → Restores m k b map s before after r → GivesTheOne m k b (map .places) s before after r
 
 -- r names the columns, and the bench holds them as they stand in s
 pub record GivenBack (m b : ℕ) (s before after : List ℕ) (r : Restored) : Type 0 where
-  pub count : ℕ
-  pub first : ℕ
-  pub second : ℕ
-  pub answer : r ≡ restored.Columns count first second
-  pub bench : Benched m b count first second s before after
+  pub passed : verdictOf r ≡ pass
+  pub bench : Benched m b (countOf r) (firstOf r) (secondOf r) s before after
 
 unfoldable pub RestoreGivesBack : Type 0
 RestoreGivesBack = (m k b : ℕ) (map : Map) (fresh s lost before after : List ℕ) (r : Restored) → Encodes m k b fresh s encoded.Done

@@ -1,2 +1,8 @@
--- What follows from the promises of all calls together.
+-- What each call promises, that this determines what it gives, and what follows from all promises together.
+pub mod Encodes
+pub mod Checks
+pub mod Restores
+pub mod Mends
+pub mod Shows
+pub mod Determined
 pub mod EndToEnd

@@ -1,18 +1,25 @@
-// Stripes kept in the EVENODD code: encode, check, show, restore and mend. Nothing here asks anything of its caller: bad input is
-// refused by number, and a refused call changes no byte that was lent. The calls stand in the crates that they are handed on from.
-pub use coding::Checked;
-pub use coding::Encoded;
-pub use coding::check;
-pub use coding::encode;
+// Stripes kept in the EVENODD code: encode, check, restore, mend and show. Nothing here asks anything of its caller: bad input is
+// refused by number, and a refused call changes no byte that was lent. Shapes, maps and refusals are handed on from `inputs`.
+mod checks;
+mod encodes;
+mod mends;
+mod restores;
+mod shows;
+
+pub use checks::Checked;
+pub use checks::check;
+pub use encodes::Encoded;
+pub use encodes::encode;
+pub use inputs::Gaps;
 pub use inputs::Judged;
 pub use inputs::Map;
 pub use inputs::Marked;
 pub use inputs::Refusal;
 pub use inputs::judge;
-pub use rebuild::Mended;
-pub use rebuild::Restored;
-pub use rebuild::mend;
-pub use rebuild::restore;
-pub use showing::Place;
-pub use showing::place_of;
-pub use showing::show;
+pub use mends::Mended;
+pub use mends::mend;
+pub use restores::Restored;
+pub use restores::restore;
+pub use shows::Place;
+pub use shows::place_of;
+pub use shows::show;

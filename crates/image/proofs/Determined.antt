@@ -2,7 +2,7 @@
 -- present column fit it; and a list of rules gives one verdict.
 use mathlib.Core.Path.{_≡_, refl, sym, ap, ap₂, _∙_}
 use mathlib.Core.Bool.{Bool, true, false}
-use mathlib.Core.List.{List}
+use mathlib.Core.List.{List, [], _∷_}
 use Prim.Native.Nat.{ℕ, _+_, _-_, _<_}
 use native.Mathlib.Omega.{arith}
 use lib.ListN.{length}
@@ -16,12 +16,13 @@ use Rattle.cells.proofs.Parts.{by-order}
 use Rattle.inputs.specs.declared.maps.Map.{Map}
 use Rattle.inputs.specs.declared.shapes.Refusal.{Refusal}
 use Rattle.inputs.specs.Refusals.{pass, refuse, Gives}
+use Rattle.inputs.specs.Rules.{stripeLengthDiffers}
 use Rattle.inputs.specs.Determined.{NewOne}
 use Rattle.inputs.proofs.Rules.{passes-not, passed-first, equal-of, gives-one, gives-passed}
 use Rattle.inputs.proofs.Determined.{new-one}
 use Rattle.image.specs.declared.answers.Read.{Read}
 use Rattle.image.specs.declared.answers.Read.the-variants as read
-use Rattle.image.specs.Reads.{contentsRules, lengthRules, readRules, answered, kOf, Says, Filled, Fills}
+use Rattle.image.specs.Reads.{mIn, kIn, bIn, contentsRules, readRules, verdictOf, kOf, Says, Filled, Fills}
 use Rattle.image.specs.Determined.{ImageOne, BodiesOne, ContentsTell, ContentsOne, ReadsOne}
 use Rattle.image.proofs.Formed.{formed-right, formed-says, formed-body}
 use Rattle.image.proofs.Verdicts.{formed-header, formed-passes}
@@ -51,7 +52,7 @@ pub contents-tell : ContentsTell
 unfolding ContentsTell ImageOne
 contents-tell image m k b map r s w c = go (r .answer) (r .map) (c .told) (c .says)
   where
-    go : (a : Read) (found : Map) → Gives (contentsRules image) (answered a) → Says image a found
+    go : (a : Read) (found : Map) → Gives (contentsRules image) (verdictOf a) → Says image a found
         → (a ≡ read.Shape m k b) × (found .places ≡ map) × (absences (kOf a) (found .places) ≡ absences k map)
     go (read.Shape n l d) found told says =
         let g = good-answer image found told says in
@@ -76,7 +77,7 @@ contents-one image r q x y =
     let (answer, map) = go (r .answer) (q .answer) (r .map) (q .map) (gives-one (contentsRules image) _ _ (x .told) (y .told)) (x .told) (y .told) (x .says) (y .says) in
     ap₂ (λ a m. record { answer = a; map = m }) answer map
   where
-    go : (a c : Read) (map other : Map) → answered a ≡ answered c → Gives (contentsRules image) (answered a) → Gives (contentsRules image) (answered c)
+    go : (a c : Read) (map other : Map) → verdictOf a ≡ verdictOf c → Gives (contentsRules image) (verdictOf a) → Gives (contentsRules image) (verdictOf c)
         → Says image a map → Says image c other → (a ≡ c) × (map ≡ other)
     go (read.Shape m k b) (read.Shape n l d) map other e u v s t = good-one (good-answer image map u s) (good-answer image other v t)
     go (read.Shape m k b) (read.Refused g) map other e u v s t = absurd (passes-not g e)
@@ -99,17 +100,17 @@ filled-one {m} {k} {b} {map} {image} {before} {x} {y} s e u v =
 pub reads-one : ReadsOne
 unfolding ReadsOne NewOne ImageOne
 reads-one image before x y r q u v =
-    let (answer, map, stripe) = go (r .answer) (q .answer) (r .map) (q .map) (gives-one (readRules image before) _ _ (u .told) (v .told)) (u .told) (v .told) (u .fills) (v .fills) in
+    let (answer, map, stripe) = go (r .answer) (q .answer) (r .map) (q .map) (gives-one (readRules image (length before)) _ _ (u .told) (v .told)) (u .told) (v .told) (u .fills) (v .fills) in
     (ap₂ (λ a m. record { answer = a; map = m }) answer map, stripe)
   where
     -- the image is well formed, and the stripe has its length
-    good : {m k b : ℕ} {map : Map} {after : List ℕ} → Gives (readRules image before) pass → Fills image (read.Shape m k b) map before after
+    good : {m k b : ℕ} {map : Map} {after : List ℕ} → Gives (readRules image (length before)) pass → Fills image (read.Shape m k b) map before after
         → Good image m k b (map .places) × (length before ≡ stripeLength m k b)
     good {map = map} told (own, filled) =
-        let (first, second) = gives-passed (contentsRules image) (lengthRules image before) told in
+        let (first, second) = gives-passed (contentsRules image) (stripeLengthDiffers (mIn image) (kIn image) (bIn image) (length before) ∷ []) told in
         (good-answer image map first (own, filled .formed), rw (own .first, own .second, own .third) (equal-of _ _ (passed-first second .0)))
 
-    go : (a c : Read) (map other : Map) → answered a ≡ answered c → Gives (readRules image before) (answered a) → Gives (readRules image before) (answered c)
+    go : (a c : Read) (map other : Map) → verdictOf a ≡ verdictOf c → Gives (readRules image (length before)) (verdictOf a) → Gives (readRules image (length before)) (verdictOf c)
         → Fills image a map before x → Fills image c other before y → (a ≡ c) × (map ≡ other) × (x ≡ y)
     go (read.Shape m k b) (read.Shape n l d) map other e told again s t =
         let (g, size) = good told s in

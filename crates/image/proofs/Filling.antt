@@ -4,7 +4,7 @@
 use mathlib.Core.Path.{_≡_, refl, sym, _∙_}
 use mathlib.Core.Logic.{_≢_}
 use mathlib.Core.Bool.{Bool}
-use mathlib.Core.List.{List}
+use mathlib.Core.List.{List, [], _∷_}
 use Prim.Native.Nat.{ℕ, _+_}
 use lib.ListN.{length}
 use Rattle.parity.specs.Shape.{Shape, columnLength, stripeLength}
@@ -13,13 +13,14 @@ use Rattle.inputs.specs.declared.maps.Map.{Map}
 use Rattle.inputs.specs.declared.shapes.Refusal.{Refusal}
 use Rattle.inputs.specs.declared.shapes.Refusal.the-variants.{StripeLength}
 use Rattle.inputs.specs.Refusals.{pass, refuse, Gives}
+use Rattle.inputs.specs.Rules.{stripeLengthDiffers}
 use Rattle.inputs.specs.Maps.{New}
 use Rattle.inputs.proofs.Rules.{gives-first, gives-next, passed-first, gives-refused, gives-after}
 use Rattle.inputs.proofs.Shape.{passed-shape}
 use Rattle.image.specs.declared.answers.Read.the-variants as read
 use Rattle.image.specs.declared.answers.Contents.{Contents}
 use Rattle.image.specs.Format.{WellFormed}
-use Rattle.image.specs.Reads.{number2, formRules, contentsRules, lengthRules, OwnShape, Says, ContentsOf, Filled, ReadInto}
+use Rattle.image.specs.Reads.{mIn, kIn, bIn, malformed, contentsRules, OwnShape, Says, ContentsOf, Filled, ReadInto}
 use Rattle.image.specs.Entries.{copiedByte, CopiedBelow}
 use Rattle.image.proofs.Formed.{formed-body}
 
@@ -32,7 +33,7 @@ pub record Good (image : List ℕ) (m k b : ℕ) (map : List Bool) : Type 0 wher
 pub good-answer : (image : List ℕ) {m k b : ℕ} (map : Map) → Gives (contentsRules image) pass → Says image (read.Shape m k b) map → Good image m k b (map .places)
 good-answer image map told (own, formed) =
     let later = passed-first told .1 in
-    let (shape, _) = passed-shape (number2 image 0) (number2 image 2) (number2 image 4) (formRules (number2 image 0) (number2 image 2) (number2 image 4) image) later in
+    let (shape, _) = passed-shape (mIn image) (kIn image) (bIn image) (malformed (mIn image) (kIn image) (bIn image) image ∷ []) later in
     record { own = own; passes = told; shape = rw (own .first, own .second, own .third) shape; formed = formed }
 
 pub good-contents : (image : List ℕ) (r : Contents) {m k b : ℕ} → ContentsOf image r → r .answer ≡ read.Shape m k b → Good image m k b (r .map .places)
@@ -43,12 +44,12 @@ module _ (image s : List ℕ) (r : Contents) where
   read-refused {f} c e =
       let told : Gives (contentsRules image) (refuse f) = rw e at (c .told) in
       let (zero, new) = rw e at (c .says) in
-      record { told = rw e (gives-refused (contentsRules image) (lengthRules image s) f told); fills = rw e (zero, new, refl) }
+      record { told = rw e (gives-refused (contentsRules image) (stripeLengthDiffers (mIn image) (kIn image) (bIn image) (length s) ∷ []) f told); fills = rw e (zero, new, refl) }
 
   module _ {m k b : ℕ} {map : List Bool} (g : Good image m k b map) where
     pub read-length : length s ≢ stripeLength m k b → (r .answer ≡ read.Refused StripeLength) × New (r .map) → ReadInto image s s r
     read-length f (e, new) = record {
-      told = rw e (gives-after (contentsRules image) (lengthRules image s) _ (g .passes) (gives-first (rw (g .own .first, g .own .second, g .own .third) at f)));
+      told = rw e (gives-after (contentsRules image) (stripeLengthDiffers (mIn image) (kIn image) (bIn image) (length s) ∷ []) _ (g .passes) (gives-first (rw (g .own .first, g .own .second, g .own .third) at f)));
       fills = rw e (record { first = refl; second = refl; third = refl }, new, refl);
     }
 
@@ -69,6 +70,6 @@ module _ (image s : List ℕ) (r : Contents) where
   pub read-good : {m k b : ℕ} {after : List ℕ} → Good image m k b (r .map .places) → r .answer ≡ read.Shape m k b → length s ≡ stripeLength m k b
       → CopiedBelow image (r .map .places) (columnLength m b) (k + 2) s after → ReadInto image s after r
   read-good g e n c = record {
-    told = rw e (gives-after (contentsRules image) (lengthRules image s) pass (g .passes) (gives-next (λ f. f (rw (g .own .first, g .own .second, g .own .third) at n)) refl));
+    told = rw e (gives-after (contentsRules image) (stripeLengthDiffers (mIn image) (kIn image) (bIn image) (length s) ∷ []) pass (g .passes) (gives-next (λ f. f (rw (g .own .first, g .own .second, g .own .third) at n)) refl));
     fills = rw e (g .own, filled g c);
   }

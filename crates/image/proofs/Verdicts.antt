@@ -8,7 +8,7 @@
 use mathlib.Core.Path.{_≡_, refl, sym, ap, _∙_}
 use mathlib.Core.Logic.{_≢_, _⊎_, inl, inr}
 use mathlib.Core.Bool.{Bool, true, false}
-use mathlib.Core.List.{List, _++_}
+use mathlib.Core.List.{List, [], _∷_, _++_}
 use Prim.Native.Nat.{ℕ, _+_, _≤_, _<_}
 use native.Mathlib.Omega.{arith}
 use lib.ListN.{length}
@@ -18,7 +18,8 @@ use Rattle.inputs.specs.declared.shapes.Judged.the-variants as judged
 use Rattle.inputs.specs.declared.shapes.Refusal.{Refusal}
 use Rattle.inputs.specs.declared.shapes.Refusal.the-variants.{Malformed}
 use Rattle.inputs.specs.Refusals.{Verdict, pass, refuse, Gives}
-use Rattle.inputs.specs.Shapes.{shapeRules, Judges, refusalOf}
+use Rattle.inputs.specs.Rules.{shapeRules}
+use Rattle.inputs.specs.Shapes.{Judges, refusalOf}
 use Rattle.inputs.specs.Maps.{New}
 use Rattle.inputs.proofs.Rules.{gives-first, gives-next}
 use Rattle.inputs.proofs.Shape.{judged-refused, after-shape}
@@ -26,7 +27,7 @@ use Rattle.image.specs.declared.answers.Read.the-variants as read
 use Rattle.image.specs.declared.answers.Contents.{Contents}
 use Rattle.image.specs.declared.table.Table.{Table}
 use Rattle.image.specs.Format.{bodiesAt, WellFormed}
-use Rattle.image.specs.Reads.{number2, IllFormed, formRules, contentsRules, ContentsOf}
+use Rattle.image.specs.Reads.{number2, malformed, contentsRules, ContentsOf}
 use Rattle.image.specs.Entries.{bodyAt, Walked}
 use Rattle.image.proofs.Digits.{Bytes}
 use Rattle.image.proofs.Formed.{formed-right, right-formed}
@@ -49,7 +50,7 @@ module _ (image : List ℕ) where
   contents-fourth f = gives-first (inr f)
 
 module _ {image : List ℕ} {m k b : ℕ} (h : Header image m k b) where
-  after-header : {v : Verdict} → Gives (shapeRules m k b ++ formRules m k b image) v → Gives (contentsRules image) v
+  after-header : {v : Verdict} → Gives (shapeRules m k b ++ (malformed m k b image ∷ [])) v → Gives (contentsRules image) v
   after-header g = gives-next begun (rw (h .first, h .second, h .third) at g)
     where
       begun : (length image < 8) ⊎ (number2 image 6 ≢ 0) → ⊥
@@ -57,24 +58,24 @@ module _ {image : List ℕ} {m k b : ℕ} (h : Header image m k b) where
       begun (inr f) = f (h .fourth)
 
   pub contents-shape : (j : Judged) {f g : Refusal} → Judges m k b j → j ≡ judged.Refused f → g ≡ refusalOf j → Gives (contentsRules image) (refuse g)
-  contents-shape j u e q = after-header (judged-refused m k b (formRules m k b image) j u e q)
+  contents-shape j u e q = after-header (judged-refused m k b (malformed m k b image ∷ []) j u e q)
 
   module _ (shape : Shape m k b) where
-    pub contents-ill : IllFormed m k b image → Gives (contentsRules image) (refuse Malformed)
-    contents-ill ill = after-header (after-shape m k b (formRules m k b image) _ shape (gives-first ill))
+    pub contents-ill : malformed m k b image .condition → Gives (contentsRules image) (refuse Malformed)
+    contents-ill ill = after-header (after-shape m k b (malformed m k b image ∷ []) _ shape (gives-first ill))
 
     pub formed-passes : (map : List Bool) → WellFormed m k b map image → Gives (contentsRules image) pass
-    formed-passes map w = after-header (after-shape m k b (formRules m k b image) _ shape (gives-next (λ ill. ill map w) refl))
+    formed-passes map w = after-header (after-shape m k b (malformed m k b image ∷ []) _ shape (gives-next (λ ill. ill map w) refl))
 
-    pub ill-short : length image < bodiesAt k → IllFormed m k b image
+    pub ill-short : length image < bodiesAt k → malformed m k b image .condition
     unfolding bodyAt
     ill-short l map w = let r = formed-right shape map image w in let e = r .size in omega arith
 
     module _ {c : ℕ} (q : c ≡ columnLength m b) {w : Table} (walked : Walked image (bodiesAt k) c (k + 2) w) where
-      pub ill-entry : w .right ≡ false → IllFormed m k b image
+      pub ill-entry : w .right ≡ false → malformed m k b image .condition
       ill-entry e map f = walked .wrong e (rw q (formed-right shape map image f .entries))
 
-      pub ill-length : w .right ≡ true → w .next ≢ length image → IllFormed m k b image
+      pub ill-length : w .right ≡ true → w .next ≢ length image → malformed m k b image .condition
       ill-length e n map f = n (walked .right e .next ∙ rw q (sym (formed-right shape map image f .size)))
 
       pub contents-good : Bytes image → w .right ≡ true → w .next ≡ length image

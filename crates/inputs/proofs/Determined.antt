@@ -1,31 +1,46 @@
 -- Each promise determines its result: the proofs of the statements in specs/Determined.
 -- A list of rules gives one verdict, and where it passes the promise says the rest.
-use mathlib.Core.Path.{_≡_, refl, sym, ap, _∙_}
+use mathlib.Core.Path.{_≡_, refl, sym, ap, ap₂, _∙_}
 use mathlib.Core.Logic.{by-cases}
 use mathlib.Core.Bool.{Bool, true, false, cond}
 use mathlib.Core.List.{List}
-use Prim.Native.Nat.{ℕ}
+use Prim.Native.Nat.{ℕ, _+_}
 use native.Mathlib.Decide.{decLt}
 use native.Mathlib.Omega.{arith}
 use lib.Dec.{eqb}
 use lib.Seq.{ext-getD}
-use Rattle.marks.specs.declared.Gaps.{Gaps}
-use Rattle.marks.specs.Absent.{Counts}
-use Rattle.marks.proofs.Absent.{past-all, nth-one}
+use Rattle.inputs.specs.declared.maps.Gaps.{Gaps}
+use Rattle.inputs.specs.Absent.{Counts}
+use Rattle.inputs.proofs.Absent.{past-all, nth-one}
 use Rattle.inputs.specs.declared.maps.Marked.the-variants as marked
+use Rattle.inputs.specs.declared.lent.Given.the-variants as given
+use Rattle.inputs.specs.declared.shapes.Judged.{Judged}
 use Rattle.inputs.specs.declared.shapes.Judged.the-variants as judged
-use Rattle.inputs.specs.Shapes.{shapeRules}
-use Rattle.inputs.specs.Maps.{placeRules}
-use Rattle.inputs.specs.Determined.{JudgesOne, NewOne, OfBytesOne, AsBytesOne, MarksOne, MarkedTwice, JudgesPlaceOne, FindsGapsOne, FindsStraysOne}
+use Rattle.inputs.specs.Refusals.{Rule, Gives}
+use Rattle.inputs.specs.Rules.{shapeRules, stripeRules, lentRules, gapRules, placeRules}
+use Rattle.inputs.specs.Shapes.{verdictOf, goodColumn}
+use Rattle.inputs.specs.Determined.{JudgesOne, JudgesStripeOne, JudgesLentOne, JudgesGapsOne, NewOne, OfBytesOne, AsBytesOne, MarksOne, MarkedTwice, JudgesPlaceOne, FindsGapsOne, FindsStraysOne}
 use Rattle.inputs.proofs.Rules.{passes-not, refuse-one, gives-one}
 use Rattle.inputs.proofs.Presence.{same-map}
 
+-- two answers that the same rules give, and that say the same column, are one
+judged-one : (rules : List Rule) (m b : ℕ) (r q : Judged) → Gives rules (verdictOf r) → goodColumn m b r → Gives rules (verdictOf q) → goodColumn m b q → r ≡ q
+judged-one rules m b (judged.Good c) (judged.Good d) x u y v = ap judged.Good (u ∙ sym v)
+judged-one rules m b (judged.Good c) (judged.Refused g) x u y v = absurd (passes-not g (gives-one rules _ _ x y))
+judged-one rules m b (judged.Refused f) (judged.Good d) x u y v = absurd (passes-not f (gives-one rules _ _ y x))
+judged-one rules m b (judged.Refused f) (judged.Refused g) x u y v = ap judged.Refused (refuse-one f g (gives-one rules _ _ x y))
+
 pub judges-one : JudgesOne
 unfolding JudgesOne
-judges-one m k b (judged.Good c) (judged.Good d) x y = ap judged.Good (x .column ∙ sym (y .column))
-judges-one m k b (judged.Good c) (judged.Refused g) x y = absurd (passes-not g (gives-one (shapeRules m k b) _ _ (x .told) (y .told)))
-judges-one m k b (judged.Refused f) (judged.Good d) x y = absurd (passes-not f (gives-one (shapeRules m k b) _ _ (y .told) (x .told)))
-judges-one m k b (judged.Refused f) (judged.Refused g) x y = ap judged.Refused (refuse-one f g (gives-one (shapeRules m k b) _ _ (x .told) (y .told)))
+judges-one m k b r q x y = judged-one (shapeRules m k b) m b r q (x .told) (x .column) (y .told) (y .column)
+
+pub judges-stripe-one : JudgesStripeOne
+unfolding JudgesStripeOne
+judges-stripe-one m k b n r q x y = judged-one (stripeRules m k b n) m b r q (x .told) (x .column) (y .told) (y .column)
+
+pub judges-lent-one : JudgesLentOne
+unfolding JudgesLentOne
+judges-lent-one m k b map n w r q x y = judged-one (lentRules m k b map n w) m b r q (x .told) (x .column) (y .told) (y .column)
 
 pub new-one : NewOne
 unfolding NewOne
@@ -87,3 +102,12 @@ finds-strays-one map n true true x y = refl
 finds-strays-one map n true false x y = sym (y .1 (x .0 refl))
 finds-strays-one map n false true x y = x .1 (y .0 refl)
 finds-strays-one map n false false x y = refl
+
+pub judges-gaps-one : JudgesGapsOne
+unfolding JudgesGapsOne
+judges-gaps-one m k b map n w (given.Good c g) (given.Good d h) x y =
+    ap₂ given.Good (x .good .0 ∙ sym (y .good .0)) (counts-one (k + 2) (map .places) g h (x .good .1) (y .good .1))
+judges-gaps-one m k b map n w (given.Good c g) (given.Refused f) x y = absurd (passes-not f (gives-one (gapRules m k b map n w) _ _ (x .told) (y .told)))
+judges-gaps-one m k b map n w (given.Refused f) (given.Good d h) x y = absurd (passes-not f (gives-one (gapRules m k b map n w) _ _ (y .told) (x .told)))
+judges-gaps-one m k b map n w (given.Refused f) (given.Refused g) x y =
+    ap given.Refused (refuse-one f g (gives-one (gapRules m k b map n w) _ _ (x .told) (y .told)))

@@ -3,5 +3,8 @@ pub mod Rules
 pub mod Shape
 pub mod Stripe
 pub mod Tests
+pub mod Absent
+pub mod Filling
+pub mod Present
 pub mod Presence
 pub mod Determined

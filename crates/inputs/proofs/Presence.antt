@@ -16,7 +16,7 @@ use mir.Val.{Val}
 use denote.Laws.{Is}
 use borrow.Author.Tests.{eq-eqb, ne-eqb}
 use Rattle.parity.specs.Presence.{present}
-pub use Rattle.marks.proofs.Absent.{absences-below, below-most}
+pub use Rattle.inputs.proofs.Absent.{absences-below, below-most}
 use Rattle.inputs.specs.declared.maps.Map.{Map}
 use Rattle.inputs.specs.Maps.{Marks}
 use Rattle.inputs.proofs.maps.Map.{the-row}

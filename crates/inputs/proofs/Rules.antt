@@ -1,12 +1,11 @@
 -- Laws of `Gives`: which verdict a list of rules gives.
 --   gives-first, gives-next     the first rule's condition holds; it does not, and the others give the verdict
---   passes-not                  a pass is no refusal
 --   passed-first, equal-of      a list of rules passes: the first rule's condition fails, and the others pass
 --   passes-not, refuse-one      a pass is no refusal, and one refusal is no other
 --   gives-one                   a list of rules gives one verdict
 --   gives-refused, gives-after  of two lists in a row: the first refuses; it passes, and the second gives the verdict
 --   Alike, gives-alike          two lists whose conditions say the same give the same
---   gives-passed                two lists in a row pass: each does
+--   gives-passed, gives-rest    two lists in a row pass: each does; the first passes: the second gives the verdict of both
 use mathlib.Core.Path.{_≡_, refl, sym, ap, _∙_}
 use mathlib.Core.Logic.{_≢_, _⊎_, inl, inr, by-cases, _↔_}
 use mathlib.Core.List.{List, [], _∷_, _++_}
@@ -58,6 +57,12 @@ pub gives-passed : (rules more : List Rule) → Gives (rules ++ more) pass → G
 gives-passed [] more g = (refl, g)
 gives-passed (r ∷ rules) more (inl p) = absurd (passes-not (r .refusal) (p .1))
 gives-passed (r ∷ rules) more (inr p) = let (first, second) = gives-passed rules more (p .1) in (inr (p .0, first), second)
+
+pub gives-rest : (rules more : List Rule) (v : Verdict) → Gives rules pass → Gives (rules ++ more) v → Gives more v
+gives-rest [] more v g h = h
+gives-rest (r ∷ rules) more v (inl p) h = absurd (passes-not (r .refusal) (p .1))
+gives-rest (r ∷ rules) more v (inr p) (inl q) = absurd (p .0 (q .0))
+gives-rest (r ∷ rules) more v (inr p) (inr q) = gives-rest rules more v (p .1) (q .1)
 
 -- two lists whose conditions say the same give the same
 abbrev pub Alike : List Rule → List Rule → Type 0

@@ -18,7 +18,8 @@ use Rattle.inputs.specs.declared.shapes.Judged.the-variants.{Good, Refus
 use Rattle.inputs.specs.declared.shapes.Refusal.{Refusal}
 use Rattle.inputs.specs.declared.shapes.Refusal.the-variants as refusal
 use Rattle.inputs.specs.Refusals.{Verdict, pass, refuse, Rule, Gives}
-use Rattle.inputs.specs.Shapes.{shapeRules, Judges, refusalOf}
+use Rattle.inputs.specs.Rules.{shapeRules}
+use Rattle.inputs.specs.Shapes.{Judges, refusalOf}
 use Rattle.inputs.proofs.Rules.{gives-first, gives-next, passes-not, gives-refused, gives-after, gives-passed}
 
 module _ (m k b : ℕ) where

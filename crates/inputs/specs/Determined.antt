@@ -1,20 +1,31 @@
 -- Each promise determines its result: two results that meet it are equal. Each statement is a type, which proofs/Determined inhabits.
 -- What `is_present` and `number` promise is an equation, so there is nothing to say of them.
---   JudgesOne, NewOne, OfBytesOne, AsBytesOne, MarksOne, JudgesPlaceOne, FindsGapsOne, FindsStraysOne    the promise of each call
+--   JudgesOne, JudgesStripeOne, JudgesLentOne, JudgesGapsOne, NewOne, OfBytesOne, AsBytesOne, MarksOne, JudgesPlaceOne, FindsGapsOne, FindsStraysOne    the promise of each call
 --   MarkedTwice    marking twice equals marking once
 use mathlib.Core.Path.{_≡_}
 use mathlib.Core.Bool.{Bool}
 use mathlib.Core.List.{List}
 use Prim.Native.Nat.{ℕ}
-use Rattle.marks.specs.declared.Gaps.{Gaps}
+use Rattle.inputs.specs.declared.lent.Given.{Given}
+use Rattle.inputs.specs.declared.maps.Gaps.{Gaps}
 use Rattle.inputs.specs.declared.maps.Map.{Map}
 use Rattle.inputs.specs.declared.maps.Marked.{Marked}
 use Rattle.inputs.specs.declared.shapes.Judged.{Judged}
 use Rattle.inputs.specs.Shapes.{Judges}
+use Rattle.inputs.specs.Tests.{JudgesStripe, JudgesLent, JudgesGaps}
 use Rattle.inputs.specs.Maps.{New, OfBytes, AsBytes, Marks, JudgesPlace, FindsGaps, FindsStrays}
 
 unfoldable pub JudgesOne : Type 0
 JudgesOne = (m k b : ℕ) (r q : Judged) → Judges m k b r → Judges m k b q → r ≡ q
+
+unfoldable pub JudgesStripeOne : Type 0
+JudgesStripeOne = (m k b n : ℕ) (r q : Judged) → JudgesStripe m k b n r → JudgesStripe m k b n q → r ≡ q
+
+unfoldable pub JudgesLentOne : Type 0
+JudgesLentOne = (m k b : ℕ) (map : Map) (n w : ℕ) (r q : Judged) → JudgesLent m k b map n w r → JudgesLent m k b map n w q → r ≡ q
+
+unfoldable pub JudgesGapsOne : Type 0
+JudgesGapsOne = (m k b : ℕ) (map : Map) (n w : ℕ) (r q : Given) → JudgesGaps m k b map n w r → JudgesGaps m k b map n w q → r ≡ q
 
 unfoldable pub NewOne : Type 0
 NewOne = (r q : Map) → New r → New q → r ≡ q

@@ -3,56 +3,49 @@
 --   OfBytes bytes r             place t is present exactly when byte t is 1
 --   AsBytes map bytes           byte t is 1 where place t is present, otherwise 0
 --   Marks state before place after   that place is in the state, and every other place as before
+--   verdictOf r                 the verdict of a mark
 --   JudgesPlace place r         a place of 129 or more is refused
 --   FindsGaps map n r           the absent places below n, of the 129: how many, and the two lowest of them, 129 standing for none
 --   FindsStrays map n r         whether a place at or above n is present
---   Stray k map                 a place at or above k + 2 is present
---   TooManyAbsent k map         three or more columns are absent: two different valid stripes agree
---   absentBelow n map           how many places below n are absent
---   NthAbsent n j map t         t is the absent place below n with j absent places below it; 129 where there is none
 use mathlib.Core.Path.{_≡_}
 use mathlib.Core.Bool.{Bool, true, false, cond}
 use mathlib.Core.Logic.{_↔_}
-use mathlib.Core.List.{List, [], _∷_}
-use Prim.Native.Nat.{ℕ, _+_, _≤_, _<_}
+use mathlib.Core.List.{List}
+use Prim.Native.Nat.{ℕ, _≤_, _<_}
 use lib.Dec.{eqb}
-use lib.ListN.{length}
-use Rattle.parity.specs.Presence.{present, absences}
-use Rattle.marks.specs.declared.Gaps.{Gaps}
-use Rattle.marks.specs.Absent.{PresentFrom, Counts}
-use Rattle.marks.specs.InBytes as marks
-unfoldable pub use Rattle.marks.specs.Absent.{absentBelow}
-pub use Rattle.marks.specs.Absent.{NthAbsent}
+use lib.ListN.{length, getD}
+use Rattle.parity.specs.Presence.{present}
+use Rattle.inputs.specs.declared.maps.Gaps.{Gaps}
+use Rattle.inputs.specs.Absent.{PresentFrom, Counts}
 use Rattle.inputs.specs.declared.maps.Map.{Map}
 use Rattle.inputs.specs.declared.maps.Marked.{Marked}
 use Rattle.inputs.specs.declared.maps.Marked.the-variants.{Done, Refused}
-use Rattle.inputs.specs.declared.shapes.Refusal.the-variants.{NoSuchColumn}
-use Rattle.inputs.specs.Refusals.{Verdict, pass, refuse, Rule, Gives}
+use Rattle.inputs.specs.Refusals.{Verdict, pass, refuse, Gives}
+use Rattle.inputs.specs.Rules.{placeRules}
 
 pub record New (r : Map) : Type 0 where
   pub whole : length (r .places) ≡ 129
   pub absent : (t : ℕ) → present (r .places) t ≡ false
 
-abbrev pub OfBytes : List ℕ → Map → Type 0
-OfBytes bytes r = marks.OfBytes bytes (r .places)
+pub record OfBytes (bytes : List ℕ) (r : Map) : Type 0 where
+  pub whole : length (r .places) ≡ 129
+  pub at : (t : ℕ) → t < 129 → present (r .places) t ≡ eqb (getD bytes t 0) 1
 
-abbrev pub AsBytes : Map → List ℕ → Type 0
-AsBytes map bytes = marks.AsBytes (map .places) bytes
+pub record AsBytes (map : Map) (bytes : List ℕ) : Type 0 where
+  pub whole : length bytes ≡ 129
+  pub at : (t : ℕ) → t < 129 → getD bytes t 0 ≡ cond (present (map .places) t) 1 0
 
 pub record Marks (state : Bool) (before : Map) (place : ℕ) (after : Map) : Type 0 where
   pub whole : length (after .places) ≡ 129
   pub done : place < 129 → (t : ℕ) → present (after .places) t ≡ cond (eqb t place) state (present (before .places) t)
   pub kept : 129 ≤ place → after ≡ before
 
-abbrev pub placeRules : ℕ → List Rule
-placeRules place = record { condition = 129 ≤ place; refusal = NoSuchColumn } ∷ []
-
-abbrev pub marked : Marked → Verdict
-marked Done = pass
-marked (Refused r) = refuse r
+abbrev pub verdictOf : Marked → Verdict
+verdictOf Done = pass
+verdictOf (Refused r) = refuse r
 
 pub record JudgesPlace (place : ℕ) (r : Marked) : Type 0 where
-  pub told : Gives (placeRules place) (marked r)
+  pub told : Gives (placeRules place) (verdictOf r)
 
 pub record FindsGaps (map : Map) (n : ℕ) (r : Gaps) : Type 0 where
   pub some : n ≤ 129 → Counts n (map .places) r
@@ -60,9 +53,3 @@ pub record FindsGaps (map : Map) (n : ℕ) (r : Gaps) : Type 0 where
 
 abbrev pub FindsStrays : Map → ℕ → Bool → Type 0
 FindsStrays map n r = (r ≡ true) ↔ PresentFrom n (map .places)
-
-abbrev pub Stray : ℕ → List Bool → Type 0
-Stray k map = PresentFrom (k + 2) map
-
-abbrev pub TooManyAbsent : ℕ → List Bool → Type 0
-TooManyAbsent k map = 3 ≤ absences k map

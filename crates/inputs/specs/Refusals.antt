@@ -1,6 +1,7 @@
 -- Why a call is refused, by number, and which refusal is given where several apply.
 --   numberOf r       the number of a refusal, as the table of refusal numbers has it
 --   Verdict          a call passes, or is refused
+--   answerNumber v   the number of a verdict: 0 for a pass, otherwise the refusal's
 --   Rule             a condition, and the refusal that it brings
 --   Gives rules v    v is the refusal of the first rule whose condition holds, and a pass where none does
 use mathlib.Core.Path.{_≡_}
@@ -25,6 +26,10 @@ numberOf TooLong = 10
 pub data Verdict : Type 0 where
   pass : Verdict
   refuse : Refusal → Verdict
+
+abbrev pub answerNumber : Verdict → ℕ
+answerNumber pass = 0
+answerNumber (refuse r) = numberOf r
 
 pub record Rule : Type 1 where
   pub condition : Type 0

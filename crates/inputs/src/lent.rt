@@ -1,9 +1,9 @@
 // The tests that the calls share: on the numbers, on what is lent, and on the map.
+use crate::maps::Gaps;
 use crate::maps::Map;
 use crate::shapes::Judged;
 use crate::shapes::Refusal;
 use crate::shapes::judge;
-use marks::Gaps;
 ghost use mathlib.Core.Path.{_≡_};
 ghost use Rattle.inputs.specs.Tests.{JudgesStripe, JudgesLent, JudgesGaps, refusalOf};
 
@@ -41,7 +41,7 @@ pub fn judge_stripe(m: usize, k: usize, b: usize, length: usize) -> Judged
 
 // Judges three numbers, the lengths of a stripe and of a bench, and that no place past the columns is present.
 pub fn judge_lent(m: usize, k: usize, b: usize, map: Map, length: usize, held: usize) -> Judged
-    ensures { λ r. ⌜ JudgesLent m k b (map .places) length held r ⌝ }
+    ensures { λ r. ⌜ JudgesLent m k b map length held r ⌝ }
 {
     let judged = judge_stripe(m, k, b, length);
     let Judged::Good { column } = judged else {
@@ -58,7 +58,7 @@ pub fn judge_lent(m: usize, k: usize, b: usize, map: Map, length: usize, held: u
 
 // Judges the same, and that at most two columns are absent.
 pub fn judge_gaps(m: usize, k: usize, b: usize, map: Map, length: usize, held: usize) -> Given
-    ensures { λ r. ⌜ JudgesGaps m k b (map .places) length held r ⌝ }
+    ensures { λ r. ⌜ JudgesGaps m k b map length held r ⌝ }
 {
     let judged = judge_lent(m, k, b, map, length, held);
     let Judged::Good { column } = judged else {

@@ -7,6 +7,7 @@ pub use lent::Given;
 pub use lent::judge_gaps;
 pub use lent::judge_lent;
 pub use lent::judge_stripe;
+pub use maps::Gaps;
 pub use maps::Map;
 pub use maps::Marked;
 pub use shapes::Judged;

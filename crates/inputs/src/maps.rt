@@ -1,19 +1,90 @@
 // The presence map: 129 places, each present or absent. Only this file looks into its array.
 use crate::shapes::Refusal;
-use marks::Gaps;
 ghost use mathlib.Core.Path.{_≡_};
-ghost use mathlib.Core.Bool.{true, false};
+ghost use mathlib.Core.Bool.{Bool, true, false};
+ghost use mathlib.Core.List.{List};
+ghost use Prim.Native.Nat.{_+_, _≤_, _<_};
+ghost use Rattle.parity.specs.Sum.{count};
 ghost use Rattle.parity.specs.Presence.{present};
+ghost use Rattle.inputs.specs.Absent.{Counts};
 ghost use Rattle.inputs.specs.Maps.{New, OfBytes, AsBytes, Marks, JudgesPlace, FindsGaps, FindsStrays};
 
 pub struct Map {
     places: [bool; 129],
 }
 
+// How many places are absent, and the two lowest of them; 129 stands for none.
+pub struct Gaps {
+    pub count: usize,
+    pub first: usize,
+    pub second: usize,
+}
+
 // Whether a place can be marked, or why not.
 pub enum Marked {
     Done,
     Refused(Refusal),
+}
+
+impl Gaps {
+    // What was counted below a place, and then that place: it is there, or absent.
+    fn counted(self, place: usize, there: bool) -> Self
+        requires { ⌜ self .count < 129 ⌝ }
+        ensures { λ r. ⌜ ((map : List Bool) → Counts place map self → present map place ≡ there → Counts (place + 1) map r) ⌝ }
+    {
+        if there {
+            return self;
+        }
+        let count = self.count;
+        if count == 0 {
+            return Self {
+                count: 1,
+                first: place,
+                second: self.second,
+            };
+        }
+        if count == 1 {
+            return Self {
+                count: 2,
+                first: self.first,
+                second: place,
+            };
+        }
+        Self {
+            count: count + 1,
+            first: self.first,
+            second: self.second,
+        }
+    }
+}
+
+// The absent places below n.
+fn find_gaps(places: [bool; 129], n: usize) -> Gaps
+    requires { ⌜ n ≤ 129 ⌝ }
+    ensures { λ r. ⌜ Counts n places r ⌝ }
+{
+    let mut gaps = Gaps {
+        count: 0,
+        first: 129,
+        second: 129,
+    };
+    for t in 0..n {
+        let there = places[t];
+        gaps = gaps.counted(t, there);
+    }
+    gaps
+}
+
+// How many places below n are present.
+fn count_present(places: [bool; 129], n: usize) -> u8
+    requires { ⌜ n ≤ 129 ⌝ }
+    ensures { λ r. ⌜ r ≡ count n (present places) ⌝ }
+{
+    let mut c: u8 = 0;
+    for t in 0..n {
+        c += places[t] as u8;
+    }
+    c
 }
 
 impl Map {
@@ -30,7 +101,10 @@ impl Map {
     pub fn of_bytes(bytes: &[u8; 129]) -> Self
         ensures { λ r. ⌜ OfBytes (now (bytes .entry)) r ⌝ }
     {
-        let places = marks::of_bytes(bytes);
+        let mut places = [false; 129];
+        for t in 0..129 {
+            places[t] = bytes[t] == 1;
+        }
         Self { places }
     }
 
@@ -39,7 +113,11 @@ impl Map {
         ensures { λ r. ⌜ AsBytes self r ⌝ }
     {
         let places = self.places;
-        marks::as_bytes(places)
+        let mut bytes: [u8; 129] = [0; 129];
+        for t in 0..129 {
+            bytes[t] = places[t] as u8;
+        }
+        bytes
     }
 
     // The map with a place marked present; a place of 129 or more leaves it as it is.
@@ -90,16 +168,20 @@ impl Map {
     {
         let places = self.places;
         if 129 < n {
-            return marks::find_gaps(places, 129);
+            return find_gaps(places, 129);
         }
-        marks::find_gaps(places, n)
+        find_gaps(places, n)
     }
 
-    // Whether a place from n on is present.
+    // Whether a place from n on is present: then more are present in all than below n. Counted from the first place on, which is faster
+    // than to look from place n on.
     pub fn strays(self, n: usize) -> bool
         ensures { λ r. ⌜ FindsStrays self n r ⌝ }
     {
         let places = self.places;
-        marks::has_strays(places, n)
+        if 129 < n {
+            return false;
+        }
+        count_present(places, 129) != count_present(places, n)
     }
 }

@@ -2,12 +2,8 @@
 -- and the results are that answer's.
 use Rattle.inputs.specs.Determined.{OfBytesOne, AsBytesOne}
 use Rattle.inputs.proofs.Determined.{of-bytes-one, as-bytes-one}
-use Rattle.showing.specs.Determined.{PlacesOne}
-use Rattle.showing.proofs.Determined.{places-one}
-use Rattle.rebuild.specs.Determined.{RestoresOne, MendsOne}
-use Rattle.rebuild.proofs.Determined.{restores-one, mends-one}
-use Rattle.coding.specs.Determined.{EncodesOne, ChecksOne}
-use Rattle.coding.proofs.Determined.{encodes-one, checks-one}
+use Rattle.evenodd.specs.Determined.{PlacesOne, RestoresOne, MendsOne, EncodesOne, ChecksOne}
+use Rattle.evenodd.proofs.Determined.{places-one, restores-one, mends-one, encodes-one, checks-one}
 use Rattle.image.specs.Determined.{ReadsOne}
 use Rattle.image.proofs.Determined.{reads-one}
 use Rattle.oarwillow.specs.Determined.{EncodeGivesOne, CheckGivesOne, RestoreGivesOne, MendGivesOne, ShowGivesOne, ReadGivesOne}

@@ -4,35 +4,39 @@
 use mathlib.Core.Path.{_≡_}
 use mathlib.Core.List.{List}
 use Prim.Native.Nat.{ℕ}
-use Rattle.coding.specs.declared.checking.Checked.{Checked}
-use Rattle.coding.specs.declared.encoding.Encoded.{Encoded}
+use Rattle.evenodd.specs.declared.checks.Checked.{Checked}
+use Rattle.evenodd.specs.declared.encodes.Encoded.{Encoded}
 use Rattle.inputs.specs.declared.maps.Map.{Map}
-use Rattle.rebuild.specs.declared.mending.Mended.{Mended}
-use Rattle.rebuild.specs.declared.restoring.Restored.{Restored}
-use Rattle.showing.specs.declared.Place.{Place}
+use Rattle.evenodd.specs.declared.mends.Mended.{Mended}
+use Rattle.evenodd.specs.declared.restores.Restored.{Restored}
+use Rattle.evenodd.specs.declared.shows.Place.{Place}
+use Rattle.inputs.specs.Refusals.{answerNumber}
 use Rattle.inputs.specs.Maps.{OfBytes, AsBytes}
-use Rattle.coding.specs.Encodes.{Encodes, encoded}
-use Rattle.coding.specs.Checks.{Checks, rowsOf, diagonalsOf}
-use Rattle.coding.specs.Checks as checks
-use Rattle.rebuild.specs.Restores.{Restores, restored}
-use Rattle.rebuild.specs.Mends.{Mends, columnOf}
-use Rattle.rebuild.specs.Mends as mends
-use Rattle.showing.specs.Shows.{Places, placed}
+use Rattle.evenodd.specs.Encodes.{Encodes}
+use Rattle.evenodd.specs.Encodes as encodes
+use Rattle.evenodd.specs.Checks.{Checks, rowsOf, diagonalsOf}
+use Rattle.evenodd.specs.Checks as checks
+use Rattle.evenodd.specs.Restores.{Restores, countOf, firstOf, secondOf}
+use Rattle.evenodd.specs.Restores as restores
+use Rattle.evenodd.specs.Mends.{Mends, columnOf}
+use Rattle.evenodd.specs.Mends as mends
+use Rattle.evenodd.specs.Shows.{Places, fromBenchOf, startOf, lengthOf}
+use Rattle.evenodd.specs.Shows as shows
 use Rattle.image.specs.declared.answers.Contents.{Contents}
-use Rattle.image.specs.Reads.{ReadInto, answered, mOf, kOf, bOf}
-use Rattle.oarwillow.specs.Results.{status, countOf, firstOf, secondOf, fromBenchOf, startOf, lengthOf}
+use Rattle.image.specs.Reads.{ReadInto, mOf, kOf, bOf}
+use Rattle.image.specs.Reads as reads
 
 pub record EncodeGives (m k b : ℕ) (before after : List ℕ) (r : ℕ) : Type 0 where
   pub answer : Encoded
   pub meets : Encodes m k b before after answer
-  pub number : r ≡ status (encoded answer)
+  pub number : r ≡ answerNumber (encodes.verdictOf answer)
 
 pub record CheckGives (m k b : ℕ) (s : List ℕ) (x y r : ℕ) : Type 0 where
   pub answer : Checked
   pub meets : Checks m k b s answer
   pub rows : x ≡ rowsOf answer
   pub diagonals : y ≡ diagonalsOf answer
-  pub number : r ≡ status (checks.verdictOf answer)
+  pub number : r ≡ answerNumber (checks.verdictOf answer)
 
 pub record RestoreGives (m k b : ℕ) (places s before after : List ℕ) (n x y r : ℕ) : Type 0 where
   pub map : Map
@@ -42,13 +46,13 @@ pub record RestoreGives (m k b : ℕ) (places s before after : List ℕ) (n x y 
   pub count : n ≡ countOf answer
   pub first : x ≡ firstOf answer
   pub second : y ≡ secondOf answer
-  pub number : r ≡ status (restored answer)
+  pub number : r ≡ answerNumber (restores.verdictOf answer)
 
 pub record MendGives (m k b : ℕ) (before after : List ℕ) (x r : ℕ) : Type 0 where
   pub answer : Mended
   pub meets : Mends m k b before after answer
   pub column : x ≡ columnOf answer
-  pub number : r ≡ status (mends.verdictOf answer)
+  pub number : r ≡ answerNumber (mends.verdictOf answer)
 
 pub record ShowGives (m k b : ℕ) (places s bench : List ℕ) (column x y n r : ℕ) : Type 0 where
   pub map : Map
@@ -58,7 +62,7 @@ pub record ShowGives (m k b : ℕ) (places s bench : List ℕ) (column x y n r :
   pub from : x ≡ fromBenchOf answer
   pub start : y ≡ startOf answer
   pub length : n ≡ lengthOf answer
-  pub number : r ≡ status (placed answer)
+  pub number : r ≡ answerNumber (shows.verdictOf answer)
 
 pub record ReadGives (image before after places : List ℕ) (x y z r : ℕ) : Type 0 where
   pub answer : Contents
@@ -67,4 +71,4 @@ pub record ReadGives (image before after places : List ℕ) (x y z r : ℕ) : Ty
   pub m : x ≡ mOf (answer .answer)
   pub k : y ≡ kOf (answer .answer)
   pub b : z ≡ bOf (answer .answer)
-  pub number : r ≡ status (answered (answer .answer))
+  pub number : r ≡ answerNumber (reads.verdictOf (answer .answer))

@@ -1,4 +1,3 @@
 -- What the calls for C give, and that this determines what they give.
-pub mod Results
 pub mod Calls
 pub mod Determined

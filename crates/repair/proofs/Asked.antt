@@ -12,7 +12,7 @@ use Rattle.lines.proofs.Whole.{sized}
 use Rattle.walk.specs.Walk.{Reaches}
 use Rattle.walk.proofs.Callers.{reaches}
 use Rattle.columns.specs.Columns.{Ready}
-use Rattle.marks.specs.declared.Gaps.{Gaps}
+use Rattle.inputs.specs.declared.maps.Gaps.{Gaps}
 use Rattle.repair.specs.Fills.{Gapped}
 
 module _ {g : Grid} {k : ℕ} {gaps : Gaps} {s bench : List ℕ} (p : Gapped g k gaps s bench) where

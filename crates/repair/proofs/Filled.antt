@@ -9,7 +9,7 @@ use Prim.Native.Nat.{ℕ}
 use native.Mathlib.Omega.{arith}
 use Rattle.parity.specs.Candidate.{FitsBut}
 use Rattle.single.specs.Single.{Tried}
-use Rattle.marks.specs.declared.Gaps.{Gaps}
+use Rattle.inputs.specs.declared.maps.Gaps.{Gaps}
 use Rattle.repair.specs.Fills.{Fills}
 
 module _ (m k b : ℕ) (gaps : Gaps) (s w : List ℕ) where

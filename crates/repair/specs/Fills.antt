@@ -11,7 +11,7 @@ use Rattle.parity.specs.Shape.{Shape, columnLength, stripeLength, benchLength}
 use Rattle.parity.specs.Candidate.{FitsBut}
 use Rattle.lines.specs.declared.Grid.{Grid}
 use Rattle.columns.specs.Columns.{OneRestored, TwoRestored}
-use Rattle.marks.specs.declared.Gaps.{Gaps}
+use Rattle.inputs.specs.declared.maps.Gaps.{Gaps}
 
 pub record Gapped (g : Grid) (k : ℕ) (gaps : Gaps) (s bench : List ℕ) : Type 0 where
   pub shape : Shape (g .m) k (g .b)

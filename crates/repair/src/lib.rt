@@ -1,6 +1,6 @@
 // What restore does once the numbers, the lengths and the map are right.
+use inputs::Gaps;
 use lines::Grid;
-use marks::Gaps;
 ghost use Rattle.repair.specs.Fills.{Gapped, Fills};
 
 // Restores at most two absent columns to the bench. Where none or one is absent, the others are tested before a byte is written: whether

@@ -13,7 +13,7 @@
 use mathlib.Core.Path.{_≡_, refl, sym, ap, _∙_}
 use mathlib.Core.Logic.{_⊎_, inl, inr}
 use mathlib.Core.Bool.{Bool, true, false, not, cond, true≢false}
-use mathlib.Core.List.{List, _++_}
+use mathlib.Core.List.{List, [], _∷_, _++_}
 use Prim.Native.Nat.{ℕ, suc, _+_, _-_, _≤_, _<_}
 use native.Mathlib.Numerals.{add-one}
 use native.Mathlib.Omega.{arith}
@@ -24,17 +24,20 @@ use Rattle.parity.specs.Sum.{count}
 use Rattle.parity.specs.Presence.{present, absences}
 use Rattle.cells.proofs.Parts.{by-order}
 use Rattle.inputs.specs.declared.maps.Map.{Map}
-use Rattle.rebuild.specs.declared.restoring.Restored.the-variants as restored
+use Rattle.evenodd.specs.declared.restores.Restored.the-variants as restored
 use Rattle.inputs.specs.declared.shapes.Refusal.{Refusal}
 use Rattle.inputs.specs.declared.shapes.Refusal.the-variants as refusal
 use Rattle.inputs.specs.Refusals.{Verdict, pass, refuse, Gives}
-use Rattle.inputs.specs.Maps.{New, Stray, absentBelow}
-use Rattle.rebuild.specs.Restores.{Restores}
-use Rattle.inputs.proofs.Rules.{passes-not, refuse-one, gives-first, gives-next, gives-one, gives-after, gives-passed}
+use Rattle.inputs.specs.Absent.{Stray, absentBelow}
+use Rattle.inputs.specs.Rules.{stripeLengthDiffers, contradicted, gapRules}
+use Rattle.inputs.specs.Maps.{New}
+use Rattle.evenodd.specs.Restores.{Restores}
+use Rattle.inputs.proofs.Rules.{passes-not, refuse-one, gives-first, gives-next, gives-one, gives-after, gives-passed, gives-rest}
+use Rattle.inputs.proofs.Tests.{gaps-passed}
 use Rattle.image.specs.declared.answers.Read.{Read}
 use Rattle.image.specs.declared.answers.Read.the-variants as read
 use Rattle.image.specs.declared.answers.Contents.{Contents}
-use Rattle.image.specs.Reads.{contentsRules, lengthRules, readRules, answered, ContentsOf, Filled, Fills, ReadInto}
+use Rattle.image.specs.Reads.{mIn, kIn, bIn, contentsRules, readRules, verdictOf, ContentsOf, Filled, Fills, ReadInto}
 use Rattle.image.specs.Determined.{ImageOne, ContentsOne}
 use Rattle.image.proofs.Filling.{Good, good-answer}
 use Rattle.image.proofs.Determined.{image-one, contents-one}
@@ -76,22 +79,22 @@ pub not-stray : {image : List ℕ} {m k b : ℕ} {map : List Bool} → Good imag
 not-stray g p = true≢false (sym (p .there) ∙ g .formed .clear (p .at) (p .above))
 
 pub read-passes : {image : List ℕ} (s : List ℕ) {shape : Shape} {map : Map} → Formed image shape map → length s ≡ stripeOf shape
-    → Gives (readRules image s) pass
+    → Gives (readRules image (length s)) pass
 read-passes {image} s f n =
     let own = formed-good f .own in
-    gives-after (contentsRules image) (lengthRules image s) pass (f .told) (gives-next (λ d. d (rw (own .first, own .second, own .third) at n)) refl)
+    gives-after (contentsRules image) (stripeLengthDiffers (mIn image) (kIn image) (bIn image) (length s) ∷ []) pass (f .told) (gives-next (λ d. d (rw (own .first, own .second, own .third) at n)) refl)
 
 module _ {image s after : List ℕ} {shape : Shape} {map : Map} (f : Formed image shape map) (n : length s ≡ stripeOf shape) where
-  fills : (a : Read) (other : Map) → Gives (readRules image s) (answered a) → Fills image a other s after
+  fills : (a : Read) (other : Map) → Gives (readRules image (length s)) (verdictOf a) → Fills image a other s after
       → Filled (shape .m) (shape .k) (shape .b) (map .places) image s after
   unfolding ImageOne
   fills (read.Shape x y z) other told (own, filled) =
-      let (passes, _) = gives-passed (contentsRules image) (lengthRules image s) told in
+      let (passes, _) = gives-passed (contentsRules image) (stripeLengthDiffers (mIn image) (kIn image) (bIn image) (length s) ∷ []) told in
       let g = formed-good f in
       let h = good-answer image other passes (own, filled .formed) in
       let (first, second, third, places) = image-one image (shape .m) (shape .k) (shape .b) x y z (map .places) (other .places) (g .shape) (h .shape) (g .formed) (h .formed) in
       rw (first, second, third, places) filled
-  fills (read.Refused r) other told _ = absurd (passes-not r (gives-one (readRules image s) pass (refuse r) (read-passes s f n) told))
+  fills (read.Refused r) other told _ = absurd (passes-not r (gives-one (readRules image (length s)) pass (refuse r) (read-passes s f n) told))
 
   pub read-fills : (r : Contents) → ReadInto image s after r → Filled (shape .m) (shape .k) (shape .b) (map .places) image s after
   read-fills r h = fills (r .answer) (r .map) (h .told) (h .fills)
@@ -105,8 +108,8 @@ module _ {image s filled bench after : List ℕ} {shape : Shape} {map : Map} (f 
       → JudgesParts shape map image s filled bench after (outcome.Complete shape)
   parts-complete {n} {x} {y} r = record {
     read = h;
-    told = gives-next (λ none. none (r .left .stripe) (r .left .valid) (r .left .agrees)) refl;
-    benches = (refl, record { count = n; first = x; second = y; restored = r .left });
+    told = let from = r .restored refl in gives-next (λ none. none (from .stripe) (from .valid) (from .agrees)) refl;
+    benches = (refl, record { count = n; first = x; second = y; restored = r .restored refl });
   }
 
   pub parts-contradicted : length s ≡ stripeOf shape → length bench ≡ benchOf shape → absences (shape .k) (map .places) ≤ 2 → (e : Refusal)
@@ -116,8 +119,10 @@ module _ {image s filled bench after : List ℕ} {shape : Shape} {map : Map} (f 
       let g = formed-good f in
       record {
         read = h;
-        told = go (skip (λ q. omega arith) (skip (not-stray g) (skip (λ d. d room) (skip (λ d. d (h .size ∙ long)) (skip (λ d. d (g .shape)) (r .told))))));
-        benches = (refl, r .left);
+        told = go (gives-rest (gapRules (shape .m) (shape .k) (shape .b) map (length filled) (length bench)) (contradicted (shape .m) (shape .k) (shape .b) map filled ∷ []) _
+            (gaps-passed (shape .m) (shape .k) (shape .b) (length filled) map (length bench) (record { shape = g .shape; stripe = h .size ∙ long; held = room; clear = not-stray g }) few)
+            (r .told));
+        benches = (refl, r .kept e refl);
       }
     where
       go : {C : Type 0} → (C × (refuse e ≡ refuse refusal.Contradicted)) ⊎ ((C → ⊥) × (refuse e ≡ pass))

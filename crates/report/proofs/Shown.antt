@@ -13,12 +13,13 @@ use lib.Seq.{length-take-le}
 use Rattle.parity.specs.Shape.{columnLength}
 use Rattle.parity.specs.Presence.{present}
 use Rattle.inputs.specs.declared.maps.Map.{Map}
-use Rattle.showing.specs.declared.Place.{Place}
-use Rattle.showing.specs.declared.Place.the-variants.{InStripe, InBench, Refused}
+use Rattle.evenodd.specs.declared.shows.Place.{Place}
+use Rattle.evenodd.specs.declared.shows.Place.the-variants.{InStripe, InBench, Refused}
 use Rattle.inputs.specs.Refusals.{pass, refuse}
-use Rattle.showing.specs.Shows.{showRules, half, Places, PartAt, Shows}
+use Rattle.inputs.specs.Rules.{showRules}
+use Rattle.evenodd.specs.Shows.{half, Places, PartAt, Shows}
 use Rattle.inputs.proofs.Rules.{passes-not, gives-one}
-use Rattle.showing.proofs.Shown.{passes, stripe-fits, bench-fits}
+use Rattle.evenodd.proofs.Shown.{passes, in-stripe, in-bench, stripe-fits, bench-fits}
 use Rattle.report.specs.Shown.{columnOf, shown, Held}
 use Rattle.report.specs.Lines.{columnLine, columnLines}
 
@@ -36,15 +37,15 @@ module _ {m k b : ℕ} {map : Map} (s bench : RefT (List ℕ)) (held : Held m k 
       → (now r ≡ shown m b (map .places) (now s) (now bench) t) × (length (now r) ≡ columnLength m b)
   unfolding shown
   placed (InStripe start n) h part =
-      let (there, at, size) = h .lies in
+      let (there, at, size) = in-stripe h in
       let (same, long) = part-column m b t (now s) (now r) start n (part .bytes) at size (stripe-fits h) in
       (rw there same, long)
   placed (InBench start n) h part =
-      let (absent, at, size) = h .lies in
+      let (absent, at, size) = in-bench h in
       let (same, long) = part-column m b (half (map .places) t) (now bench) (now r) start n (part .bytes) at size (bench-fits h) in
       (rw absent same, long)
   placed (Refused f) h part =
-      absurd (passes-not f (gives-one (showRules m k b map (now s) (now bench) t) pass (refuse f)
+      absurd (passes-not f (gives-one (showRules m k b map (length (now s)) (length (now bench)) t) pass (refuse f)
       (passes m k b map (now s) (now bench) t (record { shape = held .shape; stripe = held .stripe; held = held .room; clear = held .clear; named = below; few = held .few }))
       (h .told)))
 

@@ -12,17 +12,19 @@ use lib.Seq.{length-take-le}
 use Rattle.parity.specs.Presence.{absences}
 use Rattle.cells.proofs.Parts.{by-order}
 use Rattle.inputs.specs.declared.maps.Map.{Map}
-use Rattle.rebuild.specs.declared.restoring.Restored.{Restored}
-use Rattle.rebuild.specs.declared.restoring.Restored.the-variants as restored
+use Rattle.evenodd.specs.declared.restores.Restored.{Restored}
+use Rattle.evenodd.specs.declared.restores.Restored.the-variants as restored
 use Rattle.inputs.specs.declared.shapes.Refusal.{Refusal}
 use Rattle.inputs.specs.declared.shapes.Refusal.the-variants as refusal
 use Rattle.inputs.specs.Refusals.{numberOf, Verdict, refuse, Gives}
-use Rattle.rebuild.specs.Restores.{restoreRules, Restores}
+use Rattle.inputs.specs.Rules.{gapRules, restoreRules}
+use Rattle.evenodd.specs.Restores.{Restores}
 use Rattle.inputs.specs.Determined.{NewOne}
-use Rattle.rebuild.specs.Determined.{RestoresOne}
-use Rattle.inputs.proofs.Rules.{passes-not, refuse-one, gives-first, gives-next, gives-one}
+use Rattle.evenodd.specs.Determined.{RestoresOne}
+use Rattle.inputs.proofs.Rules.{passes-not, refuse-one, gives-first, gives-next, gives-one, gives-after}
+use Rattle.inputs.proofs.Tests.{gaps-passed}
 use Rattle.inputs.proofs.Determined.{new-one}
-use Rattle.rebuild.proofs.Determined.{restores-one}
+use Rattle.evenodd.proofs.Determined.{restores-one}
 use Rattle.image.specs.declared.answers.Read.the-variants as read
 use Rattle.image.specs.Reads.{contentsRules, Filled, ReadInto}
 use Rattle.image.specs.Determined.{ReadsOne}
@@ -31,8 +33,7 @@ use Rattle.report.specs.declared.writing.Shape.{Shape}
 use Rattle.report.specs.declared.judging.Outcome.{Outcome}
 use Rattle.report.specs.declared.judging.Outcome.the-variants as outcome
 use Rattle.report.specs.declared.judging.Judgement.{Judgement}
-use Rattle.report.specs.Judgements.{Formed, verdictOf, partRules, Benches, JudgesParts, stripeOf, benchOf, formedRules}
-use Rattle.report.specs.Judgements.{InParts, Unwritten, Leaves, JudgesFormed, Rejected}
+use Rattle.report.specs.Judgements.{Formed, verdictOf, partRules, Benches, JudgesParts, stripeOf, benchOf, formedRules, InParts, Unwritten, Leaves, JudgesFormed, Rejected}
 use Rattle.report.specs.Theorems.{JudgesImageOne, ReportsOne, Enough}
 use Rattle.report.proofs.Judged.{by-contents, formed-good, not-stray, read-passes, skip}
 use Rattle.report.proofs.Told.{most}
@@ -66,17 +67,18 @@ module _ {image : List ℕ} (s bench : List ℕ) {shape : Shape} {map : Map} (f 
   reads h = record { told = read-passes s f long; fills = (formed-good f .own, h) }
 
   rules : {x : List ℕ} {v : Verdict} → length x ≡ length s → Gives (partRules shape map x) v
-      → Gives (restoreRules (shape .m) (shape .k) (shape .b) map x bench) v
-  rules e told =
+      → Gives (restoreRules (shape .m) (shape .k) (shape .b) map x (length bench)) v
+  rules {x} e told =
       let g = formed-good f in
-      gives-next (λ d. d (g .shape)) (gives-next (λ d. d (e ∙ long)) (gives-next (λ d. d room) (gives-next (not-stray g) (gives-next (λ q. omega arith) told))))
+      gives-after (gapRules (shape .m) (shape .k) (shape .b) map (length x) (length bench)) (partRules shape map x) _
+      (gaps-passed (shape .m) (shape .k) (shape .b) (length x) map (length bench) (record { shape = g .shape; stripe = e ∙ long; held = room; clear = not-stray g }) few) told
 
   restores : (x y : List ℕ) (o : Outcome) → length x ≡ length s → Gives (partRules shape map x) (verdictOf o) → Benches shape map x bench y o
       → (r : Restored) × Restores (shape .m) (shape .k) (shape .b) map x bench y r × (o ≡ outcomeBy shape r)
   restores x y (outcome.Complete z) e told (same, c) =
-      (restored.Columns (c .count) (c .first) (c .second), record { told = rules e told; left = c .restored }, ap outcome.Complete same)
+      (restored.Columns (c .count) (c .first) (c .second), record { told = rules e told; restored = λ _. c .restored; kept = λ g q. absurd (passes-not g q) }, ap outcome.Complete same)
   restores x y (outcome.Contradicted z) e told (same, c) =
-      (restored.Refused refusal.Contradicted, record { told = rules e told; left = c }, ap outcome.Contradicted same)
+      (restored.Refused refusal.Contradicted, record { told = rules e told; restored = λ q. absurd (passes-not refusal.Contradicted (sym q)); kept = λ _ _. c }, ap outcome.Contradicted same)
   restores x y (outcome.Ambiguous z) e told b = absurd b
   restores x y (outcome.Refused g) e told b = absurd b
 

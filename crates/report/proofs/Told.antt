@@ -21,7 +21,7 @@ use Rattle.cells.proofs.Parts.{by-order}
 use Rattle.text.specs.Text.{Wrote}
 use Rattle.inputs.specs.declared.maps.Map.{Map}
 use Rattle.inputs.specs.declared.shapes.Refusal.the-variants as refusal
-use Rattle.inputs.specs.Maps.{absentBelow}
+use Rattle.inputs.specs.Absent.{absentBelow}
 use Rattle.inputs.proofs.Rules.{passed-first}
 use Rattle.inputs.proofs.Presence.{absences-below}
 use Rattle.image.specs.Format.{presentBelow}

@@ -1,7 +1,10 @@
 -- What is judged of an image.
 --   Formed image shape map      the image is well formed, with that shape and map
+--   longest                     the most bytes that an image may have: a longer one is refused with 10
+--   verdictOf                   the verdict of an outcome
 --   partRules                   the refusal of an image whose parts have their lengths: 5
---   formedRules                 the refusals of a well-formed image, in order: 4, 2, 3, 5; 2 and 3 where the lent buffers are too short
+--   stripeTooShort, benchTooShort    2 and 3: the lent buffers are too short
+--   formedRules                 the refusals of a well-formed image, in order: 4, 2, 3, 5
 --   Complete                    the bench holds the absent columns of a valid stripe that agrees with the present ones
 --   JudgesParts                 what is judged in a stripe and a bench of exactly the lengths that the shape asks for
 --   JudgesFormed                what is judged of a well-formed image: the parts that are written begin the lent buffers, and the rest of them stays
@@ -12,14 +15,13 @@ use mathlib.Core.List.{List, [], _∷_}
 use Prim.Native.Nat.{ℕ, _≤_, _<_}
 use lib.ListN.{length, take, drop}
 use Rattle.parity.specs.Shape.{stripeLength, benchLength}
-use Rattle.parity.specs.Stripe.{Valid}
-use Rattle.parity.specs.Presence.{Agrees}
 use Rattle.inputs.specs.declared.maps.Map.{Map}
 use Rattle.inputs.specs.declared.shapes.Refusal.{Refusal}
 use Rattle.inputs.specs.declared.shapes.Refusal.the-variants as refusal
 use Rattle.inputs.specs.Refusals.{Verdict, pass, refuse, Rule, Gives}
-use Rattle.inputs.specs.Maps.{New, TooManyAbsent}
-use Rattle.rebuild.specs.Restores.{RestoredFrom}
+use Rattle.inputs.specs.Rules.{tooManyAbsent, contradicted}
+use Rattle.inputs.specs.Maps.{New}
+use Rattle.evenodd.specs.Restores.{RestoredFrom}
 use Rattle.image.specs.declared.answers.Read.the-variants as read
 use Rattle.image.specs.declared.answers.Contents.{Contents}
 use Rattle.image.specs.Reads.{contentsRules, ContentsOf, Filled}
@@ -27,6 +29,9 @@ use Rattle.report.specs.declared.writing.Shape.{Shape}
 use Rattle.report.specs.declared.judging.Outcome.{Outcome}
 use Rattle.report.specs.declared.judging.Outcome.the-variants as outcome
 use Rattle.report.specs.declared.judging.Judgement.{Judgement}
+
+abbrev pub longest : ℕ
+longest = 16384
 
 -- the contents say that shape and that map
 abbrev pub Formed : List ℕ → Shape → Map → Type 0
@@ -39,8 +44,7 @@ verdictOf (outcome.Contradicted shape) = refuse refusal.Contradicted
 verdictOf (outcome.Refused f) = refuse f
 
 abbrev pub partRules : Shape → Map → List ℕ → List Rule
-partRules shape map s =
-    record { condition = (v : List ℕ) → Valid (shape .m) (shape .k) (shape .b) v → Agrees (shape .m) (shape .k) (shape .b) (map .places) s v → ⊥; refusal = refusal.Contradicted } ∷ []
+partRules shape map s = contradicted (shape .m) (shape .k) (shape .b) map s ∷ []
 
 pub record Complete (shape : Shape) (map : Map) (s before after : List ℕ) : Type 0 where
   pub count : ℕ
@@ -66,12 +70,14 @@ stripeOf shape = stripeLength (shape .m) (shape .k) (shape .b)
 abbrev pub benchOf : Shape → ℕ
 benchOf shape = benchLength (shape .m) (shape .b)
 
+abbrev pub stripeTooShort : Shape → ℕ → Rule
+stripeTooShort shape n = record { condition = n < stripeOf shape; refusal = refusal.StripeLength }
+
+abbrev pub benchTooShort : Shape → ℕ → Rule
+benchTooShort shape n = record { condition = n < benchOf shape; refusal = refusal.BenchLength }
+
 abbrev pub formedRules : Shape → Map → List ℕ → List ℕ → List ℕ → List Rule
-formedRules shape map s bench filled =
-    record { condition = TooManyAbsent (shape .k) (map .places); refusal = refusal.Ambiguous }
-    ∷ record { condition = length s < stripeOf shape; refusal = refusal.StripeLength }
-    ∷ record { condition = length bench < benchOf shape; refusal = refusal.BenchLength }
-    ∷ partRules shape map filled
+formedRules shape map s bench filled = tooManyAbsent (shape .k) map ∷ stripeTooShort shape (length s) ∷ benchTooShort shape (length bench) ∷ partRules shape map filled
 
 pub record InParts (shape : Shape) (map : Map) (image s after bench benched : List ℕ) (r : Outcome) : Type 0 where
   pub parts : JudgesParts shape map image (take (stripeOf shape) s) (take (stripeOf shape) after) (take (benchOf shape) bench) (take (benchOf shape) benched) r
@@ -99,8 +105,8 @@ pub record Rejected (f : Refusal) (s after bench benched : List ℕ) (r : Judgem
   pub unwritten : Unwritten s after bench benched
 
 pub record JudgesImage (image s after bench benched : List ℕ) (r : Judgement) : Type 0 where
-  pub contents : length image ≤ 16384 → (c : Contents) × ContentsOf image c
-  pub long : 16384 < length image → Rejected refusal.TooLong s after bench benched r
-  pub bad : length image ≤ 16384 → (f : Refusal) → Gives (contentsRules image) (refuse f) → Rejected f s after bench benched r
-  pub formed : length image ≤ 16384 → (shape : Shape) (map : Map) → Formed image shape map
+  pub contents : length image ≤ longest → (c : Contents) × ContentsOf image c
+  pub long : longest < length image → Rejected refusal.TooLong s after bench benched r
+  pub bad : length image ≤ longest → (f : Refusal) → Gives (contentsRules image) (refuse f) → Rejected f s after bench benched r
+  pub formed : length image ≤ longest → (shape : Shape) (map : Map) → Formed image shape map
       → (r .map ≡ map) × JudgesFormed shape map image s after bench benched (r .outcome)

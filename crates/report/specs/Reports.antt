@@ -10,7 +10,9 @@ use Prim.Native.Nat.{ℕ, _+_, _*_, _≤_}
 use lib.ListN.{length, take, drop}
 use Rattle.parity.specs.Shape.{columnLength}
 use Rattle.inputs.specs.declared.maps.Map.{Map}
-use Rattle.inputs.specs.Refusals.{numberOf}
+use Rattle.inputs.specs.declared.shapes.Refusal.{Refusal}
+use Rattle.inputs.specs.declared.shapes.Refusal.the-variants as refusal
+use Rattle.inputs.specs.Refusals.{pass, refuse, answerNumber}
 use Rattle.report.specs.declared.writing.Shape.{Shape}
 use Rattle.report.specs.declared.judging.Outcome.{Outcome}
 use Rattle.report.specs.declared.judging.Outcome.the-variants.{Complete, Ambiguous, Contradicted, Refused}
@@ -19,20 +21,20 @@ use Rattle.report.specs.Shown.{shown, Held}
 use Rattle.report.specs.Lines.{shapeLine, columnLines, answerLine}
 use Rattle.report.specs.Judgements.{stripeOf, benchOf, JudgesImage}
 
-abbrev pub refusedText : Shape → ℕ → List ℕ
-refusedText shape n = shapeLine (shape .m) (shape .k) (shape .b) ++ answerLine n
+abbrev pub refusedText : Shape → Refusal → List ℕ
+refusedText shape f = shapeLine (shape .m) (shape .k) (shape .b) ++ answerLine (answerNumber (refuse f))
 
 abbrev pub completeText : Shape → Map → List ℕ → List ℕ → List ℕ
 completeText shape map s bench =
     shapeLine (shape .m) (shape .k) (shape .b)
     ++ columnLines (shape .k + 2) (map .places) (shown (shape .m) (shape .b) (map .places) (take (stripeOf shape) s) (take (benchOf shape) bench))
-    ++ answerLine 0
+    ++ answerLine (answerNumber pass)
 
 abbrev pub textOf : Outcome → Map → List ℕ → List ℕ → List ℕ
 textOf (Complete shape) map s bench = completeText shape map s bench
-textOf (Ambiguous shape) map s bench = refusedText shape 4
-textOf (Contradicted shape) map s bench = refusedText shape 5
-textOf (Refused f) map s bench = answerLine (numberOf f)
+textOf (Ambiguous shape) map s bench = refusedText shape refusal.Ambiguous
+textOf (Contradicted shape) map s bench = refusedText shape refusal.Contradicted
+textOf (Refused f) map s bench = answerLine (answerNumber (refuse f))
 
 pub record Tellable (shape : Shape) (map : Map) (s bench : List ℕ) (room : ℕ) : Type 0 where
   pub held : Held (shape .m) (shape .k) (shape .b) map (take (stripeOf shape) s) (take (benchOf shape) bench)

@@ -10,8 +10,8 @@ use lib.ListN.{length, take, drop}
 use Rattle.parity.specs.Shape.{Shape, columnLength, stripeLength, benchLength}
 use Rattle.parity.specs.Presence.{present, absences}
 use Rattle.inputs.specs.declared.maps.Map.{Map}
-use Rattle.inputs.specs.Maps.{Stray}
-use Rattle.showing.specs.Shows.{half}
+use Rattle.inputs.specs.Absent.{Stray}
+use Rattle.evenodd.specs.Shows.{half}
 
 unfoldable pub columnOf : ℕ → ℕ → List ℕ → ℕ → List ℕ
 columnOf m b s t = take (columnLength m b) (drop (t * columnLength m b) s)

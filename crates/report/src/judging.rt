@@ -10,7 +10,7 @@ ghost use Prim.Native.Nat.{_≤_};
 ghost use lib.ListN.{length};
 ghost use Rattle.parity.specs.Shape.{stripeLength, benchLength};
 ghost use Rattle.parity.specs.Presence.{absences};
-ghost use Rattle.inputs.specs.Maps.{absentBelow};
+ghost use Rattle.inputs.specs.Absent.{absentBelow};
 ghost use Rattle.report.specs.Judgements.{JudgesParts, JudgesFormed, JudgesImage, Formed};
 
 // What came of an image: every column is there, in the stripe or in the bench; three or more are absent; those that are present contradict

@@ -6,18 +6,19 @@ use crate::writing::put_answer;
 use crate::writing::put_columns;
 use crate::writing::put_shape;
 use evenodd::Map;
+use evenodd::Refusal;
 ghost use Prim.Native.Nat.{_≤_, _<_};
 ghost use lib.ListN.{length};
 ghost use Rattle.text.specs.Text.{Wrote};
 ghost use Rattle.report.specs.Reports.{refusedText, completeText, Tellable, Reports};
 
-// Writes the shape and the answer only.
-fn put_refused(out: &mut [u8], shape: Shape, number: u8) -> usize
+// Writes the shape and the refusal's number only.
+fn put_refused(out: &mut [u8], shape: Shape, refusal: Refusal) -> usize
     requires { ⌜ (shape .m < 10000) × (shape .k < 10000) × (shape .b < 10000) × (33 ≤ length (now out)) ⌝ }
-    ensures { λ r. ⌜ Wrote (now (out .entry)) (now (out .exit)) 0 r (refusedText shape number) × (r ≤ length (now (out .entry))) ⌝ }
+    ensures { λ r. ⌜ Wrote (now (out .entry)) (now (out .exit)) 0 r (refusedText shape refusal) × (r ≤ length (now (out .entry))) ⌝ }
 {
     let next = put_shape(out, 0, shape);
-    put_answer(out, next, number)
+    put_answer(out, next, refusal.number())
 }
 
 // Writes the shape, the columns and the answer 0.
@@ -50,8 +51,8 @@ pub fn report(image: &[u8], stripe: &mut [u8], bench: &mut [u8], out: &mut [u8])
     let outcome = judged.outcome;
     match outcome {
         Outcome::Complete(shape) => put_complete(out, shape, map, stripe, bench),
-        Outcome::Ambiguous(shape) => put_refused(out, shape, 4),
-        Outcome::Contradicted(shape) => put_refused(out, shape, 5),
+        Outcome::Ambiguous(shape) => put_refused(out, shape, Refusal::Ambiguous),
+        Outcome::Contradicted(shape) => put_refused(out, shape, Refusal::Contradicted),
         Outcome::Refused(f) => put_answer(out, 0, f.number()),
     }
 }

@@ -1,4 +1,4 @@
-// A line for each operation, in the form `CASE OPERATION ANSWER`.
+// A line for each operation, in the form `CASE OPERATION ANSWER`. Each function answers the place after its text, which has a greatest length.
 use evenodd::Checked;
 use evenodd::Encoded;
 use evenodd::Map;
@@ -9,32 +9,44 @@ use words::say_bytes;
 use words::say_head;
 use words::say_number;
 use words::say_word;
+ghost use Prim.Native.Nat.{_+_, _≤_};
+ghost use lib.ListN.{length};
 
 // Two numbers.
-fn say_two(out: &mut [u8], at: usize, x: usize, y: usize) -> usize {
+fn say_two(out: &mut [u8], at: usize, x: usize, y: usize) -> usize
+    ensures { λ r. ⌜ (at ≤ r) × (r ≤ at + 10) ⌝ }
+{
     let next = say_number(out, at, x);
     say_number(out, next, y)
 }
 
 // Three numbers.
-fn say_three(out: &mut [u8], at: usize, x: usize, y: usize, z: usize) -> usize {
+fn say_three(out: &mut [u8], at: usize, x: usize, y: usize, z: usize) -> usize
+    ensures { λ r. ⌜ (at ≤ r) × (r ≤ at + 15) ⌝ }
+{
     let next = say_number(out, at, x);
     say_two(out, next, y, z)
 }
 
 // Four numbers.
-pub(crate) fn say_four(out: &mut [u8], at: usize, w: usize, x: usize, y: usize, z: usize) -> usize {
+pub(crate) fn say_four(out: &mut [u8], at: usize, w: usize, x: usize, y: usize, z: usize) -> usize
+    ensures { λ r. ⌜ (at ≤ r) × (r ≤ at + 20) ⌝ }
+{
     let next = say_number(out, at, w);
     say_three(out, next, x, y, z)
 }
 
 // Bytes, and the end of the line.
-pub(crate) fn say_last(out: &mut [u8], at: usize, bytes: &[u8]) -> usize {
+pub(crate) fn say_last(out: &mut [u8], at: usize, bytes: &[u8]) -> usize
+    ensures { λ r. ⌜ (at ≤ r) × (r ≤ at + 202) ⌝ }
+{
     let next = say_bytes(out, at, bytes);
     say_word(out, next, b"\n")
 }
 
-fn say_encoded(out: &mut [u8], at: usize, answer: Encoded) -> usize {
+fn say_encoded(out: &mut [u8], at: usize, answer: Encoded) -> usize
+    ensures { λ r. ⌜ (at ≤ r) × (r ≤ at + 5) ⌝ }
+{
     match answer {
         Encoded::Done => say_number(out, at, 0),
         Encoded::Refused(f) => say_number(out, at, f.number() as usize),
@@ -50,14 +62,18 @@ pub fn encode_line(
     k: usize,
     b: usize,
     stripe: &mut [u8],
-) -> usize {
+) -> usize
+    ensures { λ r. ⌜ (at ≤ r) × (r ≤ at + (length (now (name .entry)) + 214)) ⌝ }
+{
     let first = say_head(out, at, name, b" encode");
     let answer = evenodd::encode(m, k, b, stripe);
     let second = say_encoded(out, first, answer);
     say_last(out, second, stripe)
 }
 
-fn say_checked(out: &mut [u8], at: usize, answer: Checked) -> usize {
+fn say_checked(out: &mut [u8], at: usize, answer: Checked) -> usize
+    ensures { λ r. ⌜ (at ≤ r) × (r ≤ at + 15) ⌝ }
+{
     match answer {
         Checked::Intact => say_three(out, at, 0, 0, 0),
         Checked::Broken { rows, diagonals } => say_three(out, at, 0, rows, diagonals),
@@ -74,14 +90,18 @@ pub fn check_line(
     k: usize,
     b: usize,
     stripe: &[u8],
-) -> usize {
+) -> usize
+    ensures { λ r. ⌜ (at ≤ r) × (r ≤ at + (length (now (name .entry)) + 22)) ⌝ }
+{
     let first = say_head(out, at, name, b" check");
     let answer = evenodd::check(m, k, b, stripe);
     let second = say_checked(out, first, answer);
     say_word(out, second, b"\n")
 }
 
-fn say_restored(out: &mut [u8], at: usize, answer: Restored) -> usize {
+fn say_restored(out: &mut [u8], at: usize, answer: Restored) -> usize
+    ensures { λ r. ⌜ (at ≤ r) × (r ≤ at + 20) ⌝ }
+{
     match answer {
         Restored::Columns {
             count,
@@ -103,14 +123,18 @@ pub fn restore_line(
     map: Map,
     stripe: &[u8],
     bench: &mut [u8],
-) -> usize {
+) -> usize
+    ensures { λ r. ⌜ (at ≤ r) × (r ≤ at + (length (now (name .entry)) + 230)) ⌝ }
+{
     let first = say_head(out, at, name, b" restore");
     let answer = evenodd::restore(m, k, b, map, stripe, bench);
     let second = say_restored(out, first, answer);
     say_last(out, second, bench)
 }
 
-fn say_placed(out: &mut [u8], at: usize, answer: Place) -> usize {
+fn say_placed(out: &mut [u8], at: usize, answer: Place) -> usize
+    ensures { λ r. ⌜ (at ≤ r) × (r ≤ at + 20) ⌝ }
+{
     match answer {
         Place::InStripe { start, length } => say_four(out, at, 0, 0, start, length),
         Place::InBench { start, length } => say_four(out, at, 0, 1, start, length),
@@ -130,14 +154,18 @@ pub fn show_line(
     stripe: &[u8],
     bench: &[u8],
     column: usize,
-) -> usize {
+) -> usize
+    ensures { λ r. ⌜ (at ≤ r) × (r ≤ at + (length (now (name .entry)) + 26)) ⌝ }
+{
     let first = say_head(out, at, name, b" show");
     let answer = evenodd::place_of(m, k, b, map, stripe, bench, column);
     let second = say_placed(out, first, answer);
     say_word(out, second, b"\n")
 }
 
-fn say_mended(out: &mut [u8], at: usize, answer: Mended) -> usize {
+fn say_mended(out: &mut [u8], at: usize, answer: Mended) -> usize
+    ensures { λ r. ⌜ (at ≤ r) × (r ≤ at + 10) ⌝ }
+{
     match answer {
         Mended::Intact => say_two(out, at, 0, 129),
         Mended::Column(u) => say_two(out, at, 0, u),
@@ -154,7 +182,9 @@ pub fn mend_line(
     k: usize,
     b: usize,
     stripe: &mut [u8],
-) -> usize {
+) -> usize
+    ensures { λ r. ⌜ (at ≤ r) × (r ≤ at + (length (now (name .entry)) + 217)) ⌝ }
+{
     let first = say_head(out, at, name, b" mend");
     let answer = evenodd::mend(m, k, b, stripe);
     let second = say_mended(out, first, answer);

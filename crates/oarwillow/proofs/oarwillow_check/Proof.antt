@@ -1,6 +1,6 @@
 -- `oarwillow::oarwillow_check` meets its contract: the answer is check's, and each arm returns its number and writes its counts.
 use mathlib.Core.Path.{refl}
-use Rattle.coding.specs.declared.checking.Checked.the-variants.{Intact, Broken, Refused}
+use Rattle.evenodd.specs.declared.checks.Checked.the-variants.{Intact, Broken, Refused}
 use borrow.Author.Needs.{needs}
 use Rattle.oarwillow.proofs.oarwillow_check.Statement.{statement}
 use Rattle.oarwillow.proofs.oarwillow_check.Tie as tie

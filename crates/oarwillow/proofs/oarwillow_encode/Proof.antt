@@ -1,6 +1,6 @@
 -- `oarwillow::oarwillow_encode` meets its contract: the answer is encode's, and each arm returns its number.
 use mathlib.Core.Path.{refl}
-use Rattle.coding.specs.declared.encoding.Encoded.the-variants.{Done, Refused}
+use Rattle.evenodd.specs.declared.encodes.Encoded.the-variants.{Done, Refused}
 use borrow.Author.Needs.{needs}
 use Rattle.oarwillow.proofs.oarwillow_encode.Statement.{statement}
 use Rattle.oarwillow.proofs.oarwillow_encode.Tie as tie

@@ -1,6 +1,6 @@
 -- `oarwillow::oarwillow_mend` meets its contract: the answer is mend's, and each arm returns its number and writes its column.
 use mathlib.Core.Path.{refl}
-use Rattle.rebuild.specs.declared.mending.Mended.the-variants.{Intact, Column, Refused}
+use Rattle.evenodd.specs.declared.mends.Mended.the-variants.{Intact, Column, Refused}
 use borrow.Author.Needs.{needs}
 use Rattle.oarwillow.proofs.oarwillow_mend.Statement.{statement}
 use Rattle.oarwillow.proofs.oarwillow_mend.Tie as tie

@@ -1,6 +1,6 @@
 -- `oarwillow::oarwillow_restore` meets its contract: the answer is restore's, and each arm returns its number and writes its columns.
 use mathlib.Core.Path.{refl}
-use Rattle.rebuild.specs.declared.restoring.Restored.the-variants.{Columns, Refused}
+use Rattle.evenodd.specs.declared.restores.Restored.the-variants.{Columns, Refused}
 use borrow.Author.Needs.{needs}
 use Rattle.oarwillow.proofs.oarwillow_restore.Statement.{statement}
 use Rattle.oarwillow.proofs.oarwillow_restore.Tie as tie

@@ -1,6 +1,6 @@
 -- `oarwillow::oarwillow_show` meets its contract: the answer is place_of's, and each arm returns its number and writes where the column lies.
 use mathlib.Core.Path.{refl}
-use Rattle.showing.specs.declared.Place.the-variants.{InStripe, InBench, Refused}
+use Rattle.evenodd.specs.declared.shows.Place.the-variants.{InStripe, InBench, Refused}
 use borrow.Author.Needs.{needs}
 use Rattle.oarwillow.proofs.oarwillow_show.Statement.{statement}
 use Rattle.oarwillow.proofs.oarwillow_show.Tie as tie

@@ -1,13 +1,13 @@
--- `words::say_flat` is safe: i stays within the text, and the buffer keeps its length.
+-- `words::say_flat` meets its contract. The loop's invariant: i bytes are written at most.
 use mathlib.Core.Path.{_≡_}
-use Prim.Native.Nat.{_≤_, _-_}
+use Prim.Native.Nat.{_+_, _≤_, _-_}
 use lib.ListN.{length}
 use borrow.Author.Needs.{needs}
 use Rattle.words.proofs.say_flat.Statement.{statement}
 use Rattle.words.proofs.say_flat.Tie as tie
 
 abbrev Inv-loop : tie.InvT-loop
-Inv-loop out₀ at words next₀ i₀ i-end out next i = (i-end ≡ length words) × (i ≤ i-end) × (length out ≡ length out₀)
+Inv-loop out₀ at words next₀ i₀ i-end out next i = (i-end ≡ length words) × (i ≤ i-end) × (length out ≡ length out₀) × (at ≤ next) × (next ≤ at + i)
 
 abbrev μ-loop : tie.MeasureT-loop
 μ-loop out₀ at words next₀ i₀ i-end out next i = i-end - i

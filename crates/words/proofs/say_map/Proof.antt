@@ -1,13 +1,13 @@
--- `words::say_map` is safe: t stays below 129, and the buffer keeps its length.
+-- `words::say_map` meets its contract. The loop's invariant: t places are written at most, a byte each.
 use mathlib.Core.Path.{_≡_}
-use Prim.Native.Nat.{_≤_, _-_}
+use Prim.Native.Nat.{_+_, _≤_, _-_}
 use lib.ListN.{length}
 use borrow.Author.Needs.{needs}
 use Rattle.words.proofs.say_map.Statement.{statement}
 use Rattle.words.proofs.say_map.Tie as tie
 
 abbrev Inv-loop : tie.InvT-loop
-Inv-loop out₀ at map next₀ t₀ out next t = (t ≤ 129) × (length out ≡ length out₀)
+Inv-loop out₀ at map next₀ t₀ out next t = (t ≤ 129) × (length out ≡ length out₀) × (at ≤ next) × (next ≤ at + 1 + t)
 
 abbrev μ-loop : tie.MeasureT-loop
 μ-loop out₀ at map next₀ t₀ out next t = 129 - t

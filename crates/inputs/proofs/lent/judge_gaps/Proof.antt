@@ -1,11 +1,11 @@
 -- `inputs::lent::judge_gaps` meets its contract: the verdict on what is lent is passed on, or the absent columns are counted.
 use mathlib.Core.Path.{refl}
-use mathlib.Core.List.{_++_}
+use mathlib.Core.List.{[], _∷_}
 use Prim.Native.Nat.{_+_}
 use native.Mathlib.Omega.{arith}
-use Rattle.marks.specs.Absent.{Counts}
-use Rattle.marks.proofs.Absent.{absences-below}
-use Rattle.inputs.specs.Tests.{stripeTests, lentTests, fewTests}
+use Rattle.inputs.specs.Absent.{Counts}
+use Rattle.inputs.proofs.Absent.{absences-below}
+use Rattle.inputs.specs.Rules.{tooManyAbsent, lentRules}
 use Rattle.inputs.proofs.Rules.{gives-first, gives-next, gives-after}
 use Rattle.inputs.proofs.Shape.{places-most}
 use Rattle.inputs.proofs.Tests.{told-refused, Lent, lent-good}
@@ -13,7 +13,7 @@ use Rattle.inputs.proofs.lent.judge_gaps.Statement.{statement}
 use Rattle.inputs.proofs.lent.judge_gaps.Tie as tie
 
 good : (c : tie.After-known-told) → let a = c .before .before .before .before .args in
-    Lent (a .m) (a .k) (a .b) (a .length) (a .map .places) (a .held) (c .before .judged .given .0 .0)
+    Lent (a .m) (a .k) (a .b) (a .length) (a .map) (a .held) (c .before .judged .given .0 .0)
 good c = let at = c .before .before .before in lent-good _ _ _ _ _ _ (at .judge-lent .result) (at .judge-lent .ensures) (c .before .judged .given .1)
 
 -- k + 2 places are at most 129
@@ -37,7 +37,7 @@ returns c =
     let at = c .before .before .before in
     let a = at .before .args in
     record {
-      told = told-refused (stripeTests (a .m) (a .k) (a .b) (a .length) ++ lentTests (a .m) (a .k) (a .b) (a .map .places) (a .held)) (fewTests (a .k) (a .map .places))
+      told = told-refused (lentRules (a .m) (a .k) (a .b) (a .map) (a .length) (a .held)) (tooManyAbsent (a .k) (a .map) ∷ [])
           (at .judge-lent .result) (at .judge-lent .ensures .told) (c .before .enum-told .given .1) (c .refusal .ensures);
       good = tt;
     }
@@ -54,7 +54,7 @@ returns-2 c =
     let a = g .before .before .before .before .before .args in
     let e = absences-below (a .k) (a .map .places) in
     record {
-      told = gives-after (stripeTests (a .m) (a .k) (a .b) (a .length) ++ lentTests (a .m) (a .k) (a .b) (a .map .places) (a .held)) (fewTests (a .k) (a .map .places)) _
+      told = gives-after (lentRules (a .m) (a .k) (a .b) (a .map) (a .length) (a .held)) (tooManyAbsent (a .k) (a .map) ∷ []) _
           (good (g .before) .tests) (gives-first (omega (arith, found g .count, c .if1 .taken)));
       good = tt;
     }
@@ -65,7 +65,7 @@ returns-3 c =
     let a = g .before .before .before .before .before .args in
     let e = absences-below (a .k) (a .map .places) in
     record {
-      told = gives-after (stripeTests (a .m) (a .k) (a .b) (a .length) ++ lentTests (a .m) (a .k) (a .b) (a .map .places) (a .held)) (fewTests (a .k) (a .map .places)) _
+      told = gives-after (lentRules (a .m) (a .k) (a .b) (a .map) (a .length) (a .held)) (tooManyAbsent (a .k) (a .map) ∷ []) _
           (good (g .before) .tests) (gives-next (λ h. omega (arith, found g .count, c .if1 .left)) refl);
       good = (good (g .before) .numbers .column, found g);
     }

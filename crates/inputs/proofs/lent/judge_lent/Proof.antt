@@ -1,10 +1,11 @@
 -- `inputs::lent::judge_lent` meets its contract: the verdict on the stripe is passed on, or the bench's length and the map are tested.
 use mathlib.Core.Path.{_≡_, refl, sym, ap, _∙_}
 use mathlib.Core.Bool.{true≢false}
+use mathlib.Core.List.{[], _∷_}
 use Prim.Native.Nat.{ℕ, _*_}
 use native.Mathlib.Omega.{arith}
 use Rattle.parity.specs.Shape.{benchLength}
-use Rattle.inputs.specs.Tests.{stripeTests, lentTests}
+use Rattle.inputs.specs.Rules.{benchLengthDiffers, strayColumn, stripeRules}
 use Rattle.inputs.proofs.Rules.{gives-first, gives-next, gives-after}
 use Rattle.inputs.proofs.Shape.{places-most, parts-most}
 use Rattle.inputs.proofs.Tests.{passed-on, told-passed, Numbers, stripe-good}
@@ -32,7 +33,7 @@ returns c =
     let at = c .before .before in
     let a = at .before .args in
     record {
-      told = passed-on (stripeTests (a .m) (a .k) (a .b) (a .length)) (lentTests (a .m) (a .k) (a .b) (a .map .places) (a .held)) (at .judge-stripe .result) (at .judge-stripe .ensures .told) (c .enum-told .given .1);
+      told = passed-on (stripeRules (a .m) (a .k) (a .b) (a .length)) (benchLengthDiffers (a .m) (a .b) (a .held) ∷ strayColumn (a .k) (a .map) ∷ []) (at .judge-stripe .result) (at .judge-stripe .ensures .told) (c .enum-told .given .1);
       column = at .judge-stripe .ensures .column;
     }
 
@@ -45,8 +46,8 @@ returns-2 c =
     let at = c .before .before .before .before in
     let a = at .before .args in
     record {
-      told = gives-after (stripeTests (a .m) (a .k) (a .b) (a .length)) (lentTests (a .m) (a .k) (a .b) (a .map .places) (a .held)) _
-          (told-passed (stripeTests (a .m) (a .k) (a .b) (a .length)) (at .judge-stripe .result) (at .judge-stripe .ensures .told) (c .before .before .judged .given .1)) (gives-first (rw (good (c .before) .column) at (c .if1 .taken)));
+      told = gives-after (stripeRules (a .m) (a .k) (a .b) (a .length)) (benchLengthDiffers (a .m) (a .b) (a .held) ∷ strayColumn (a .k) (a .map) ∷ []) _
+          (told-passed (stripeRules (a .m) (a .k) (a .b) (a .length)) (at .judge-stripe .result) (at .judge-stripe .ensures .told) (c .before .before .judged .given .1)) (gives-first (rw (good (c .before) .column) at (c .if1 .taken)));
       column = tt;
     }
 
@@ -62,8 +63,8 @@ returns-3 c =
     let at = one .before .before .before .before in
     let a = at .before .args in
     record {
-      told = gives-after (stripeTests (a .m) (a .k) (a .b) (a .length)) (lentTests (a .m) (a .k) (a .b) (a .map .places) (a .held)) _
-          (told-passed (stripeTests (a .m) (a .k) (a .b) (a .length)) (at .judge-stripe .result) (at .judge-stripe .ensures .told) (one .before .before .judged .given .1))
+      told = gives-after (stripeRules (a .m) (a .k) (a .b) (a .length)) (benchLengthDiffers (a .m) (a .b) (a .held) ∷ strayColumn (a .k) (a .map) ∷ []) _
+          (told-passed (stripeRules (a .m) (a .k) (a .b) (a .length)) (at .judge-stripe .result) (at .judge-stripe .ensures .told) (one .before .before .judged .given .1))
           (gives-next (λ n. n (bench-right one)) (gives-first (c .before .strays .ensures .0 (c .if2 .taken))));
       column = tt;
     }
@@ -74,8 +75,8 @@ returns-4 c =
     let at = one .before .before .before .before in
     let a = at .before .args in
     record {
-      told = gives-after (stripeTests (a .m) (a .k) (a .b) (a .length)) (lentTests (a .m) (a .k) (a .b) (a .map .places) (a .held)) _
-          (told-passed (stripeTests (a .m) (a .k) (a .b) (a .length)) (at .judge-stripe .result) (at .judge-stripe .ensures .told) (one .before .before .judged .given .1))
+      told = gives-after (stripeRules (a .m) (a .k) (a .b) (a .length)) (benchLengthDiffers (a .m) (a .b) (a .held) ∷ strayColumn (a .k) (a .map) ∷ []) _
+          (told-passed (stripeRules (a .m) (a .k) (a .b) (a .length)) (at .judge-stripe .result) (at .judge-stripe .ensures .told) (one .before .before .judged .given .1))
           (gives-next (λ n. n (bench-right one)) (gives-next (λ p. true≢false (sym (c .before .strays .ensures .1 p) ∙ c .if2 .left)) refl));
       column = good (one .before) .column;
     }

@@ -1,10 +1,10 @@
 -- `inputs::lent::judge_stripe` meets its contract: the verdict on the numbers is passed on, or the length is tested.
 use mathlib.Core.Path.{_≡_, refl, ap, _∙_}
+use mathlib.Core.List.{[], _∷_}
 use Prim.Native.Nat.{ℕ, _+_, _*_}
 use native.Mathlib.Omega.{arith}
 use Rattle.parity.specs.Shape.{Shape, columnLength, stripeLength}
-use Rattle.inputs.specs.Shapes.{shapeRules}
-use Rattle.inputs.specs.Tests.{lengthTest}
+use Rattle.inputs.specs.Rules.{stripeLengthDiffers, shapeRules}
 use Rattle.inputs.proofs.Rules.{gives-first, gives-next}
 use Rattle.inputs.proofs.Shape.{places-most, parts-most, judged-good, after-shape}
 use Rattle.inputs.proofs.Tests.{passed-on}
@@ -29,7 +29,7 @@ returns c =
     let at = c .before .before in
     let a = at .before .args in
     record {
-      told = passed-on (shapeRules (a .m) (a .k) (a .b)) (lengthTest (a .m) (a .k) (a .b) (a .length)) (at .judge .result) (at .judge .ensures .told) (c .enum-told .given .1);
+      told = passed-on (shapeRules (a .m) (a .k) (a .b)) (stripeLengthDiffers (a .m) (a .k) (a .b) (a .length) ∷ []) (at .judge .result) (at .judge .ensures .told) (c .enum-told .given .1);
       column = at .judge .ensures .column;
     }
 
@@ -44,14 +44,14 @@ unfolding stripeLength
 returns-2 c =
     let a = c .before .before .before .before .before .args in
     let (s, e) = good (c .before) in
-    record { told = after-shape (a .m) (a .k) (a .b) (lengthTest (a .m) (a .k) (a .b) (a .length)) _ s (gives-first (rw e at (c .if1 .taken))); column = tt }
+    record { told = after-shape (a .m) (a .k) (a .b) (stripeLengthDiffers (a .m) (a .k) (a .b) (a .length) ∷ []) _ s (gives-first (rw e at (c .if1 .taken))); column = tt }
 
 returns-3 : tie.Need-returns-3
 unfolding stripeLength
 returns-3 c =
     let a = c .before .before .before .before .before .args in
     let (s, e) = good (c .before) in
-    record { told = after-shape (a .m) (a .k) (a .b) (lengthTest (a .m) (a .k) (a .b) (a .length)) _ s (gives-next (λ n. n (c .if1 .left ∙ ap (λ (x : ℕ). (a .k + 2) * x) e)) refl); column = e }
+    record { told = after-shape (a .m) (a .k) (a .b) (stripeLengthDiffers (a .m) (a .k) (a .b) (a .length) ∷ []) _ s (gives-next (λ n. n (c .if1 .left ∙ ap (λ (x : ℕ). (a .k + 2) * x) e)) refl); column = e }
 
 pub judge-stripe-spec : {M : Type 1} → statement M
 judge-stripe-spec =

@@ -2,7 +2,7 @@
 use mathlib.Core.Path.{_≡_, ap, ap₂, _∙_}
 use mathlib.Core.Bool.{Bool, not, cond}
 use Prim.Native.Nat.{_+_, _-_, _≤_}
-use Rattle.inputs.specs.Maps.{absentBelow}
+use Rattle.inputs.specs.Absent.{absentBelow}
 use Rattle.inputs.proofs.Presence.{below-most}
 use Rattle.report.proofs.Judged.{absent-none, absent-next}
 use borrow.Author.Needs.{needs}

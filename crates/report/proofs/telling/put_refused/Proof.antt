@@ -8,6 +8,9 @@ use Rattle.report.proofs.telling.put_refused.Tie as tie
 put-shape-requires : tie.Need-put-shape-requires
 put-shape-requires c κs = search needs
 
+number-requires : tie.Need-number-requires
+number-requires c κs = search needs
+
 put-answer-requires : tie.Need-put-answer-requires
 put-answer-requires c κs = search needs
 
@@ -16,7 +19,8 @@ same-length c = search needs
 
 returns : tie.Need-returns
 returns c =
-    (wrote-then (c .before .before .before .before .before .before .put-shape .ensures .0) (c .before .before .put-answer .ensures .0), omega arith)
+    let at = c .before .before .before in
+    (wrote-then (at .before .before .before .before .put-shape .ensures .0) (rw (at .number .ensures) at (c .before .before .put-answer .ensures .0)), omega arith)
 
 pub put-refused-spec : {M : Type 1} → statement M
-put-refused-spec = tie.close (tie.spec put-shape-requires put-answer-requires same-length returns)
+put-refused-spec = tie.close (tie.spec put-shape-requires number-requires put-answer-requires same-length returns)

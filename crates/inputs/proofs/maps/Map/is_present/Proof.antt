@@ -3,7 +3,7 @@ use mathlib.Core.Path.{refl, sym}
 use native.Mathlib.Omega.{arith}
 use borrow.Author.Needs.{needs}
 use Rattle.parity.specs.Presence.{present}
-use Rattle.marks.proofs.Absent.{past-all}
+use Rattle.inputs.proofs.Absent.{past-all}
 use Rattle.inputs.proofs.Presence.{whole}
 use Rattle.inputs.proofs.maps.Map.is_present.Statement.{statement}
 use Rattle.inputs.proofs.maps.Map.is_present.Tie as tie

@@ -1,12 +1,51 @@
--- `inputs::maps::Map::of_bytes` meets its contract: the marks are those of the bytes.
+-- `inputs::maps::Map::of_bytes` meets its contract. The loop's invariant: the places below t are those of the bytes.
+use mathlib.Core.Path.{refl}
+use mathlib.Core.Bool.{false}
+use Prim.Native.Nat.{_≤_, _-_}
+use lib.Dec.{eqb}
+use lib.ListN.{getD}
+use Rattle.inputs.proofs.Filling.{FilledTo, filled-none, filled-more, of-bytes}
+use borrow.Author.Needs.{needs}
 use Rattle.inputs.proofs.maps.Map.of_bytes.Statement.{statement}
 use Rattle.inputs.proofs.maps.Map.of_bytes.Tie as tie
 
-of-bytes-requires : tie.Need-of-bytes-requires
-of-bytes-requires c κs = tt
+abbrev Inv-loop : tie.InvT-loop
+Inv-loop bytes places₀ t₀ places t = (t ≤ 129) × FilledTo false (λ x. eqb (getD bytes x 0) 1) t places
 
-returns : tie.Need-returns
-returns c = let r = c .of-bytes .ensures in record { whole = r .whole; at = r .at }
+abbrev μ-loop : tie.MeasureT-loop
+μ-loop bytes places₀ t₀ places t = 129 - t
+
+loop-holds : tie.Need-loop-holds Inv-loop μ-loop
+loop-holds c = (search needs, filled-none _ _ _ refl)
+
+element-copy-out-places : tie.Need-element-copy-out-places Inv-loop μ-loop
+element-copy-out-places c = search needs
+
+array-write-places : tie.Need-array-write-places Inv-loop μ-loop
+array-write-places c = search needs
+
+add-t : tie.Need-add-t Inv-loop μ-loop
+add-t c = search needs
+
+loop-less : tie.Need-loop-less Inv-loop μ-loop
+loop-less c = search needs
+
+loop-again : tie.Need-loop-again Inv-loop μ-loop
+loop-again c = (search needs, filled-more _ _ _ _ (c .before .before .loop .inv .1) (search needs))
+
+returns : tie.Need-returns Inv-loop μ-loop
+returns c = of-bytes _ _ (c .before .loop .t) (c .before .loop .inv .1) (search needs)
 
 pub of-bytes-spec : {M : Type 1} → statement M
-of-bytes-spec = tie.close (tie.spec of-bytes-requires returns)
+of-bytes-spec =
+    tie.close
+    (tie.spec
+    Inv-loop
+    μ-loop
+    loop-holds
+    element-copy-out-places
+    array-write-places
+    add-t
+    loop-less
+    loop-again
+    returns)

@@ -1,0 +1,231 @@
+-- Each promise determines answer and buffers: the proofs of the statements in specs/Determined.
+-- A list of rules gives one verdict. Where it passes, the answer speaks of valid stripes, of which the distance of three leaves one.
+use mathlib.Core.Path.{_≡_, refl, sym, ap, ap₂, _∙_}
+use mathlib.Core.Logic.{_≢_, by-cases, _↔_}
+use mathlib.Core.Bool.{false, true≢false}
+use mathlib.Core.List.{List, [], _∷_}
+use Prim.Native.Nat.{ℕ, _+_, _<_, _≤_}
+use native.Mathlib.Decide.{decLt}
+use native.Mathlib.Omega.{arith}
+use Rattle.parity.specs.Shape.{Shape, stripeLength, benchLength}
+use Rattle.parity.specs.Stripe.{Valid}
+use Rattle.parity.specs.Presence.{differs, absences, DifferIn, Agrees}
+use Rattle.parity.proofs.Columns.{same-column, column-same}
+use Rattle.parity.proofs.Stripes.{stripe-determined}
+use Rattle.parity.proofs.Theorems.{frame, served, at-most-one, absent-unread, one-wrong, near, few-differ}
+use Rattle.inputs.specs.Rules.{tooManyAbsent, contradicted, unmendable, stripeRules, lentRules, gapRules, mendRules, restoreRules, showRules}
+use Rattle.inputs.proofs.Rules.{passes-not, refuse-one, gives-one, passed-first, gives-passed, Alike, gives-alike}
+use Rattle.inputs.proofs.Stripe.{stripe-given}
+use Rattle.evenodd.specs.declared.checks.Checked.the-variants as checked
+use Rattle.evenodd.specs.declared.encodes.Encoded.the-variants as encoded
+use Rattle.evenodd.proofs.Mended.{intact-valid}
+use Rattle.evenodd.proofs.Shown.{in-stripe, in-bench}
+use Rattle.evenodd.specs.Determined.{EncodesOne, ChecksOne, RestoresOne, RestoresUnread, MendsOne, PlacesOne, SamePart, ShowsOne, PlacesUnread, ShowsUnread}
+use lib.Dec.{eqb}
+use lib.ListN.{length}
+use borrow.Author.Tests.{eq-eqb}
+use Rattle.parity.specs.Theorems.{AtMostOne, AbsentUnread, OneWrong}
+use Rattle.parity.proofs.Bytes.{stripe-ext}
+use Rattle.inputs.proofs.Absent.{nth-one}
+use Rattle.inputs.specs.declared.maps.Map.{Map}
+use Rattle.inputs.specs.Refusals.{pass, Gives, Verdict}
+use Rattle.inputs.proofs.Tests.{lent-given}
+use Rattle.evenodd.specs.declared.mends.Mended.the-variants as mended
+use Rattle.evenodd.specs.declared.restores.Restored.the-variants as restored
+use Rattle.evenodd.specs.Restores.{Benched, RestoredFrom}
+use denote.Ref.{RefT, now}
+use Rattle.evenodd.specs.declared.shows.Place.{Place}
+use Rattle.evenodd.specs.declared.shows.Place.the-variants.{InStripe, InBench, Refused}
+use Rattle.evenodd.specs.Shows.{Places, PartOf, PartAt}
+
+-- ---- encode and check
+
+-- valid stripes with the same data columns are one
+pub data-determine : (m k b : ℕ) → Shape m k b → (s x y : List ℕ) → Valid m k b x → Valid m k b y
+    → ((t : ℕ) → t < k → differs m b s x t ≡ false) → ((t : ℕ) → t < k → differs m b s y t ≡ false) → x ≡ y
+data-determine m k b h s x y vx vy dx dy =
+    stripe-determined m k b (frame m k b h) (h .filled) k (k + 1) (served m k b h k (k + 1) (omega arith) (omega arith)) x y vx vy (record {
+      at = λ l i t hl hi ht nh nd. let real : t < k = below t ht nh nd in sym (same-column m b s x t (dx t real) l i hl hi) ∙ same-column m b s y t (dy t real) l i hl hi;
+    })
+  where
+    below : (t : ℕ) → t < k + 2 → t ≢ k → t ≢ k + 1 → t < k
+    below t ht nh nd = by-cases (decLt t k) (λ l. l) (λ n. by-cases (decLt k t) (λ l. absurd (nd (omega arith))) (λ o. absurd (nh (omega arith))))
+
+pub encodes-one : EncodesOne
+unfolding EncodesOne
+encodes-one m k b s x y encoded.Done encoded.Done p q =
+    (refl, data-determine m k b (stripe-given m k b (length s) (p .told) .0) s x y (p .written .0) (q .written .0) (p .written .1) (q .written .1))
+encodes-one m k b s x y encoded.Done (encoded.Refused g) p q = absurd (passes-not g (gives-one (stripeRules m k b (length s)) _ _ (p .told) (q .told)))
+encodes-one m k b s x y (encoded.Refused f) encoded.Done p q = absurd (passes-not f (gives-one (stripeRules m k b (length s)) _ _ (q .told) (p .told)))
+encodes-one m k b s x y (encoded.Refused f) (encoded.Refused g) p q =
+    (ap encoded.Refused (refuse-one f g (gives-one (stripeRules m k b (length s)) _ _ (p .told) (q .told))), p .written ∙ sym (q .written))
+
+pub checks-one : ChecksOne
+unfolding ChecksOne
+checks-one m k b s checked.Intact checked.Intact p q = refl
+checks-one m k b s checked.Intact (checked.Broken x y) p q = sym (q .counted refl .intact .1 (p .counted refl .intact .0 refl))
+checks-one m k b s checked.Intact (checked.Refused g) p q = absurd (passes-not g (gives-one (stripeRules m k b (length s)) _ _ (p .told) (q .told)))
+checks-one m k b s (checked.Broken x y) checked.Intact p q = p .counted refl .intact .1 (q .counted refl .intact .0 refl)
+checks-one m k b s (checked.Broken x y) (checked.Broken u v) p q =
+    let c = p .counted refl in
+    let d = q .counted refl in
+    ap₂ checked.Broken (c .rows ∙ sym (d .rows)) (c .diagonals ∙ sym (d .diagonals))
+checks-one m k b s (checked.Broken x y) (checked.Refused g) p q = absurd (passes-not g (gives-one (stripeRules m k b (length s)) _ _ (p .told) (q .told)))
+checks-one m k b s (checked.Refused f) checked.Intact p q = absurd (passes-not f (gives-one (stripeRules m k b (length s)) _ _ (q .told) (p .told)))
+checks-one m k b s (checked.Refused f) (checked.Broken u v) p q = absurd (passes-not f (gives-one (stripeRules m k b (length s)) _ _ (q .told) (p .told)))
+checks-one m k b s (checked.Refused f) (checked.Refused g) p q = ap checked.Refused (refuse-one f g (gives-one (stripeRules m k b (length s)) _ _ (p .told) (q .told)))
+
+-- ---- restore
+
+-- where restore's rules pass
+pub record Passed (m k b : ℕ) (map : Map) (bench : List ℕ) : Type 0 where
+  pub shape : Shape m k b
+  pub held : length bench ≡ benchLength m b
+  pub few : absences k (map .places) ≤ 2
+
+pub restore-passed : (m k b : ℕ) (map : Map) (s bench : List ℕ) → Gives (restoreRules m k b map s (length bench)) pass → Passed m k b map bench
+restore-passed m k b map s bench g =
+    let (gaps, _) = gives-passed (gapRules m k b map (length s) (length bench)) (contradicted m k b map s ∷ []) g in
+    let (lent, many) = gives-passed (lentRules m k b map (length s) (length bench)) (tooManyAbsent k map ∷ []) gaps in
+    let fits = lent-given m k b (length s) map (length bench) lent in
+    let (few, _) = passed-first many in
+    record { shape = fits .shape; held = fits .held; few = omega arith }
+
+-- two benches of one valid stripe are one
+benched-one : (m b n first second : ℕ) (v before x y : List ℕ) → 1 < m → 0 < b → length before ≡ benchLength m b
+    → Benched m b n first second v before x → Benched m b n first second v before y → x ≡ y
+unfolding benchLength stripeLength
+benched-one m b n first second v before x y big full held p q =
+    stripe-ext m 0 b big full x y (p .size ∙ held) (q .size ∙ held) (λ l i t hl hi ht.
+    by-cases (decLt 0 t)
+    (λ c. let e : t ≡ 1 = omega arith in rw e (p .half1 l i hl hi ∙ sym (q .half1 l i hl hi)))
+    (λ c. let e : t ≡ 0 = omega arith in rw e (p .half0 l i hl hi ∙ sym (q .half0 l i hl hi))))
+
+pub restores-one : RestoresOne
+unfolding RestoresOne AtMostOne
+restores-one m k b map s bench x y (restored.Columns n f g) (restored.Columns n′ f′ g′) p q =
+    let w = restore-passed m k b map s bench (p .told) in
+    let u = p .restored refl in
+    let v = q .restored refl in
+    let h = w .shape in
+    let en : n ≡ n′ = u .counted ∙ sym (v .counted) in
+    let ef : f ≡ f′ = nth-one (k + 2) 0 (map .places) f f′ (u .lowest) (v .lowest) in
+    let eg : g ≡ g′ = nth-one (k + 2) 1 (map .places) g g′ (u .other) (v .other) in
+    let es : u .stripe ≡ v .stripe = at-most-one m k b h (map .places) (w .few) s (u .stripe) (v .stripe) (u .valid) (v .valid) (u .agrees) (v .agrees) in
+    (cc, benched-one m b n f g (u .stripe) bench x y (h .value .prime .big) (h .filled) (w .held) (u .bench) (rw (en, ef, eg, es) (v .bench)))
+restores-one m k b map s bench x y (restored.Columns n f g) (restored.Refused r) p q = absurd (passes-not r (gives-one (restoreRules m k b map s (length bench)) _ _ (p .told) (q .told)))
+restores-one m k b map s bench x y (restored.Refused r) (restored.Columns n f g) p q = absurd (passes-not r (gives-one (restoreRules m k b map s (length bench)) _ _ (q .told) (p .told)))
+restores-one m k b map s bench x y (restored.Refused r) (restored.Refused r′) p q =
+    (ap restored.Refused (refuse-one r r′ (gives-one (restoreRules m k b map s (length bench)) _ _ (p .told) (q .told))), p .kept r refl ∙ sym (q .kept r′ refl))
+
+pub restores-unread : RestoresUnread
+unfolding RestoresUnread AbsentUnread
+restores-unread m k b map s other bench x r p e a = record { told = gives-alike (restoreRules m k b map s (length bench)) (restoreRules m k b map other (length bench)) _ same (p .told); restored = λ e. again (p .restored e); kept = p .kept }
+  where
+    agrees : (v : List ℕ) → Agrees m k b (map .places) s v ↔ Agrees m k b (map .places) other v
+    agrees = absent-unread m k b (map .places) s other a
+
+    same : Alike (restoreRules m k b map s (length bench)) (restoreRules m k b map other (length bench))
+    same = (
+      (λ c. c, λ c. c),
+      refl,
+      (
+        (λ c d. c (sym e ∙ d), λ c d. c (e ∙ d)),
+        refl,
+        (
+          (λ c. c, λ c. c),
+          refl,
+          (
+            (λ c. c, λ c. c),
+            refl,
+            (
+              (λ c. c, λ c. c),
+              refl,
+              ((λ c v vv av. c v vv (agrees v .1 av), λ c v vv av. c v vv (agrees v .0 av)), refl, tt),
+            ),
+          ),
+        ),
+      ),
+    )
+
+    again : {n f g : ℕ} → RestoredFrom m k b (map .places) s bench x n f g → RestoredFrom m k b (map .places) other bench x n f g
+    again u = record {
+      stripe = u .stripe;
+      valid = u .valid;
+      agrees = agrees (u .stripe) .0 (u .agrees);
+      counted = u .counted;
+      lowest = u .lowest;
+      other = u .other;
+      bench = u .bench;
+    }
+
+-- ---- mend
+
+pub mend-shape : (m k b : ℕ) (s : List ℕ) → Gives (mendRules m k b s) pass → Shape m k b
+mend-shape m k b s g = stripe-given m k b (length s) (gives-passed (stripeRules m k b (length s)) (unmendable m k b s ∷ []) g .0) .0
+
+-- a valid stripe does not differ from a valid one in exactly one column
+pub not-one : (m k b : ℕ) → Shape m k b → (s x : List ℕ) (u : ℕ) → u < k + 2 → Valid m k b s → Valid m k b x → DifferIn m k b (eqb u) s x → ⊥
+not-one m k b h s x u hu vs vx d =
+    let e : s ≡ x = near m k b h s x vs vx (let l = few-differ m k b u s x d in omega arith) in
+    true≢false (sym (eq-eqb u u refl) ∙ sym (d .at u hu) ∙ ap (λ q. differs m b s q u) (sym e) ∙ column-same m b s s u (λ l i hl hi. refl))
+
+pub mends-one : MendsOne
+unfolding MendsOne OneWrong
+mends-one m k b s x y mended.Intact mended.Intact p q = (refl, p .kept refl ∙ sym (q .kept refl))
+mends-one m k b s x y mended.Intact (mended.Column v) p q =
+    absurd (not-one m k b (mend-shape m k b s (p .told)) s y v (q .named v refl) (intact-valid p) (q .valid refl) (q .differed refl))
+mends-one m k b s x y mended.Intact (mended.Refused g) p q = absurd (passes-not g (gives-one (mendRules m k b s) _ _ (p .told) (q .told)))
+mends-one m k b s x y (mended.Column u) mended.Intact p q =
+    absurd (not-one m k b (mend-shape m k b s (p .told)) s x u (p .named u refl) (intact-valid q) (p .valid refl) (p .differed refl))
+mends-one m k b s x y (mended.Column u) (mended.Column v) p q =
+    let (a, c) = one-wrong m k b (mend-shape m k b s (p .told)) s x y u v (p .named u refl) (q .named v refl) (p .valid refl) (q .valid refl) (p .differed refl) (q .differed refl) in
+    (ap mended.Column a, c)
+mends-one m k b s x y (mended.Column u) (mended.Refused g) p q = absurd (passes-not g (gives-one (mendRules m k b s) _ _ (p .told) (q .told)))
+mends-one m k b s x y (mended.Refused f) mended.Intact p q = absurd (passes-not f (gives-one (mendRules m k b s) _ _ (q .told) (p .told)))
+mends-one m k b s x y (mended.Refused f) (mended.Column v) p q = absurd (passes-not f (gives-one (mendRules m k b s) _ _ (q .told) (p .told)))
+mends-one m k b s x y (mended.Refused f) (mended.Refused g) p q =
+    (ap mended.Refused (refuse-one f g (gives-one (mendRules m k b s) _ _ (p .told) (q .told))), p .kept refl ∙ sym (q .kept refl))
+
+-- ---- show
+
+pub places-one : PlacesOne
+unfolding PlacesOne
+places-one m k b map s bench column r q x y = go r q x y
+  where
+    answered : (v w : Verdict) → Gives (showRules m k b map (length s) (length bench) column) v → Gives (showRules m k b map (length s) (length bench) column) w → v ≡ w
+    answered v w = gives-one (showRules m k b map (length s) (length bench) column) v w
+
+    go : (r q : Place) → Places m k b map s bench column r → Places m k b map s bench column q → r ≡ q
+    go (InStripe a n) (InStripe c l) x y = let (_, p, u) = in-stripe x in let (_, q, v) = in-stripe y in ap₂ InStripe (p ∙ sym q) (u ∙ sym v)
+    go (InStripe a n) (InBench c l) x y = absurd (true≢false (sym (in-stripe x .0) ∙ in-bench y .0))
+    go (InStripe a n) (Refused g) x y = absurd (passes-not g (answered _ _ (x .told) (y .told)))
+    go (InBench a n) (InStripe c l) x y = absurd (true≢false (sym (in-stripe y .0) ∙ in-bench x .0))
+    go (InBench a n) (InBench c l) x y = let (_, p, u) = in-bench x in let (_, q, v) = in-bench y in ap₂ InBench (p ∙ sym q) (u ∙ sym v)
+    go (InBench a n) (Refused g) x y = absurd (passes-not g (answered _ _ (x .told) (y .told)))
+    go (Refused f) (InStripe c l) x y = absurd (passes-not f (answered _ _ (y .told) (x .told)))
+    go (Refused f) (InBench c l) x y = absurd (passes-not f (answered _ _ (y .told) (x .told)))
+    go (Refused f) (Refused g) x y = ap Refused (refuse-one f g (answered _ _ (x .told) (y .told)))
+
+part-one : (x : RefT (List ℕ)) (at n : ℕ) (r q : RefT (List ℕ)) → PartOf x at n r → PartOf x at n q → SamePart r q
+part-one x at n r q u v = record { block = u .block ∙ sym (v .block); place = u .place ∙ sym (v .place); bytes = u .bytes ∙ sym (v .bytes) }
+
+part-at-one : (s bench : RefT (List ℕ)) (p : Place) (r q : RefT (List ℕ)) → PartAt s bench p r → PartAt s bench p q → SamePart r q
+part-at-one s bench (InStripe a n) r q u v = part-one s a n r q u v
+part-at-one s bench (InBench a n) r q u v = part-one bench a n r q u v
+part-at-one s bench (Refused f) r q u v = part-one s 0 0 r q u v
+
+pub shows-one : ShowsOne
+unfolding ShowsOne PlacesOne
+shows-one m k b map s bench column r q x y =
+    let e = places-one m k b map (now s) (now bench) column (x .answer) (y .answer) (x .places) (y .places) in
+    part-at-one s bench (y .answer) r q (rw e at (x .part)) (y .part)
+
+pub places-unread : PlacesUnread
+unfolding PlacesUnread
+places-unread m k b map s bench other spare column r x e f = record { told = rw (e, f) (x .told); lies = x .lies }
+
+pub shows-unread : ShowsUnread
+unfolding ShowsUnread PlacesUnread PlacesOne
+shows-unread m k b map s bench other spare column r q x y e f =
+    places-one m k b map (now other) (now spare) column (x .answer) (y .answer) (places-unread m k b map (now s) (now bench) (now other) (now spare) column (x .answer) (x .places) e f) (y .places)

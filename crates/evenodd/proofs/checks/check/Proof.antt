@@ -1,0 +1,61 @@
+-- `evenodd::checks::check` meets its contract: the tests, and the counts of the loops below.
+use mathlib.Core.Path.{sym}
+use mathlib.Core.List.{[]}
+use lib.ListN.{length}
+use denote.Ref.{now}
+use Rattle.lines.proofs.Whole.{sized}
+use Rattle.inputs.specs.Rules.{stripeRules}
+use Rattle.inputs.proofs.Rules.{passes-not}
+use Rattle.inputs.proofs.Tests.{told-refused, Numbers, stripe-good, stripe-long}
+use Rattle.inputs.proofs.Stripe.{stripe-passed}
+use Rattle.evenodd.proofs.Checked.{says-checks}
+use Rattle.evenodd.proofs.checks.check.Statement.{statement}
+use Rattle.evenodd.proofs.checks.check.Tie as tie
+
+good : (c : tie.After-known-told) → let a = c .before .before .before .before .before .args in
+    Numbers (a .m) (a .k) (a .b) (length (now (a .stripe))) (c .before .judged .given .0 .0)
+good c = let at = c .before .before .before in stripe-good _ _ _ _ (at .judge-stripe .result) (at .judge-stripe .ensures) (c .before .judged .given .1)
+
+judge-stripe-requires : tie.Need-judge-stripe-requires
+judge-stripe-requires c κs = tt
+
+enum-known-judged : tie.Need-enum-known-judged
+enum-known-judged c = c .match .keys1
+
+enum-told : tie.Need-enum-told
+enum-told c = c .match .keys2
+
+refusal-requires : tie.Need-refusal-requires
+refusal-requires c κs = tt
+
+returns : tie.Need-returns
+returns c =
+    let at = c .before .before .before in
+    let a = at .before .before .args in
+    record { told = told-refused (stripeRules (a .m) (a .k) (a .b) (length (now (a .stripe)))) [] (at .judge-stripe .result) (at .judge-stripe .ensures .told) (c .before .enum-told .given .1) (c .refusal .ensures); counted = λ e. absurd (passes-not _ (sym e)) }
+
+count-broken-requires : tie.Need-count-broken-requires
+count-broken-requires c κs = let n = good c in (sized (n .shape) (n .column), n .shape .few, stripe-long n)
+
+told-requires : tie.Need-told-requires
+told-requires c κs = tt
+
+returns-2 : tie.Need-returns-2
+returns-2 c =
+    let a = c .before .before .before .before .before .before .before .args in
+    let n = good (c .before .before) in
+    let r = c .before .count-broken .ensures in
+    says-checks (a .m) (a .k) (a .b) (now (a .stripe)) (stripe-passed (a .m) (a .k) (a .b) (length (now (a .stripe))) (n .shape) (n .stripe)) (c .before .count-broken .result) (r .0) (r .1) (c .told .result) (c .told .ensures)
+
+pub check-spec : {M : Type 1} → statement M
+check-spec =
+    tie.close
+    (tie.spec
+    judge-stripe-requires
+    enum-known-judged
+    enum-told
+    refusal-requires
+    returns
+    count-broken-requires
+    told-requires
+    returns-2)

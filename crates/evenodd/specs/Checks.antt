@@ -1,0 +1,46 @@
+-- What check answers. It reads only.
+--   verdictOf, rowsOf, diagonalsOf   the verdict of an answer, and its two counts: 0 where it is refused
+--   Counted   the counts are those of the rows and of the numbers whose equation breaks, and the stripe is called intact exactly when it is
+--   Checks    refused: 1, 2; passed: `Counted`
+--   Says      what an answer says of two counts
+use mathlib.Core.Path.{_≡_}
+use mathlib.Core.Logic.{_↔_}
+use mathlib.Core.List.{List}
+use Prim.Native.Nat.{ℕ}
+use lib.ListN.{length}
+use Rattle.parity.specs.Stripe.{Intact, brokenRows, brokenDiagonals}
+use Rattle.counts.specs.declared.Counts.{Counts}
+use Rattle.evenodd.specs.declared.checks.Checked.{Checked}
+use Rattle.evenodd.specs.declared.checks.Checked.the-variants as checked
+use Rattle.inputs.specs.Refusals.{Verdict, pass, refuse, Gives}
+use Rattle.inputs.specs.Rules.{stripeRules}
+
+abbrev pub verdictOf : Checked → Verdict
+verdictOf checked.Intact = pass
+verdictOf (checked.Broken rows diagonals) = pass
+verdictOf (checked.Refused r) = refuse r
+
+abbrev pub rowsOf : Checked → ℕ
+rowsOf checked.Intact = 0
+rowsOf (checked.Broken rows diagonals) = rows
+rowsOf (checked.Refused r) = 0
+
+abbrev pub diagonalsOf : Checked → ℕ
+diagonalsOf checked.Intact = 0
+diagonalsOf (checked.Broken rows diagonals) = diagonals
+diagonalsOf (checked.Refused r) = 0
+
+pub record Counted (m k b : ℕ) (s : List ℕ) (r : Checked) : Type 0 where
+  pub rows : rowsOf r ≡ brokenRows m k b s
+  pub diagonals : diagonalsOf r ≡ brokenDiagonals m k b s
+  pub intact : (r ≡ checked.Intact) ↔ Intact m k b s
+
+pub record Checks (m k b : ℕ) (s : List ℕ) (r : Checked) : Type 0 where
+  pub told : Gives (stripeRules m k b (length s)) (verdictOf r)
+  pub counted : verdictOf r ≡ pass → Counted m k b s r
+
+pub record Says (c : Counts) (r : Checked) : Type 0 where
+  pub passed : verdictOf r ≡ pass
+  pub rows : rowsOf r ≡ c .rows
+  pub diagonals : diagonalsOf r ≡ c .diagonals
+  pub intact : (r ≡ checked.Intact) ↔ ((c .rows ≡ 0) × (c .diagonals ≡ 0))

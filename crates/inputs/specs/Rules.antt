@@ -1,0 +1,83 @@
+-- Every rule of refusal, once and by name, and the order in which each call asks them. The refusal of the first rule that applies is given.
+--   badShape m k b                1: m, k or b is outside its rule
+--   stripeLengthDiffers m k b n   2: a stripe is not n bytes
+--   benchLengthDiffers m b n      3: a bench is not n bytes
+--   tooManyAbsent k map           4: three or more columns are absent
+--   contradicted m k b map s      5: no valid stripe agrees with every present column of s
+--   unmendable m k b s            6: no valid stripe differs from s in at most one column
+--   noSuchColumn k column         7: the shape has no column of that number
+--   noSuchPlace place             7: the map has no place of that number
+--   strayColumn k map             9: a place at or above k + 2 is present
+-- 8 stands with the shelf image's format, and 10 with the program. The orders:
+--   shapeRules     1: the order of every call begins with them
+--   stripeRules    1, 2: encode and check
+--   mendRules      1, 2, 6
+--   lentRules      1, 2, 3, 9: what a map, a stripe and a bench are asked first
+--   gapRules       1, 2, 3, 9, 4
+--   restoreRules   1, 2, 3, 9, 4, 5
+--   showRules      1, 2, 3, 9, 7, 4
+--   placeRules     7: marking a place
+use mathlib.Core.Logic.{_≢_}
+use mathlib.Core.List.{List, [], _∷_, _++_}
+use Prim.Native.Nat.{ℕ, _+_, _≤_}
+use lib.ListN.{length}
+use Rattle.parity.specs.Shape.{Shape, stripeLength, benchLength}
+use Rattle.parity.specs.Stripe.{Valid}
+use Rattle.parity.specs.Presence.{absences, differing, Agrees}
+use Rattle.inputs.specs.declared.maps.Map.{Map}
+use Rattle.inputs.specs.declared.shapes.Refusal.the-variants as refusal
+use Rattle.inputs.specs.Refusals.{Rule}
+use Rattle.inputs.specs.Absent.{Stray}
+
+abbrev pub badShape : ℕ → ℕ → ℕ → Rule
+badShape m k b = record { condition = Shape m k b → ⊥; refusal = refusal.Shape }
+
+abbrev pub stripeLengthDiffers : ℕ → ℕ → ℕ → ℕ → Rule
+stripeLengthDiffers m k b n = record { condition = n ≢ stripeLength m k b; refusal = refusal.StripeLength }
+
+abbrev pub benchLengthDiffers : ℕ → ℕ → ℕ → Rule
+benchLengthDiffers m b n = record { condition = n ≢ benchLength m b; refusal = refusal.BenchLength }
+
+abbrev pub tooManyAbsent : ℕ → Map → Rule
+tooManyAbsent k map = record { condition = 3 ≤ absences k (map .places); refusal = refusal.Ambiguous }
+
+abbrev pub contradicted : ℕ → ℕ → ℕ → Map → List ℕ → Rule
+contradicted m k b map s = record { condition = (v : List ℕ) → Valid m k b v → Agrees m k b (map .places) s v → ⊥; refusal = refusal.Contradicted }
+
+abbrev pub unmendable : ℕ → ℕ → ℕ → List ℕ → Rule
+unmendable m k b s = record { condition = (v : List ℕ) → Valid m k b v → differing m k b s v ≤ 1 → ⊥; refusal = refusal.Unmendable }
+
+abbrev pub noSuchColumn : ℕ → ℕ → Rule
+noSuchColumn k column = record { condition = k + 2 ≤ column; refusal = refusal.NoSuchColumn }
+
+abbrev pub noSuchPlace : ℕ → Rule
+noSuchPlace place = record { condition = 129 ≤ place; refusal = refusal.NoSuchColumn }
+
+abbrev pub strayColumn : ℕ → Map → Rule
+strayColumn k map = record { condition = Stray k (map .places); refusal = refusal.StrayColumn }
+
+-- ---- the orders
+
+abbrev pub shapeRules : ℕ → ℕ → ℕ → List Rule
+shapeRules m k b = badShape m k b ∷ []
+
+abbrev pub stripeRules : ℕ → ℕ → ℕ → ℕ → List Rule
+stripeRules m k b n = shapeRules m k b ++ (stripeLengthDiffers m k b n ∷ [])
+
+abbrev pub mendRules : ℕ → ℕ → ℕ → List ℕ → List Rule
+mendRules m k b s = stripeRules m k b (length s) ++ (unmendable m k b s ∷ [])
+
+abbrev pub lentRules : ℕ → ℕ → ℕ → Map → ℕ → ℕ → List Rule
+lentRules m k b map n w = stripeRules m k b n ++ (benchLengthDiffers m b w ∷ strayColumn k map ∷ [])
+
+abbrev pub gapRules : ℕ → ℕ → ℕ → Map → ℕ → ℕ → List Rule
+gapRules m k b map n w = lentRules m k b map n w ++ (tooManyAbsent k map ∷ [])
+
+abbrev pub restoreRules : ℕ → ℕ → ℕ → Map → List ℕ → ℕ → List Rule
+restoreRules m k b map s w = gapRules m k b map (length s) w ++ (contradicted m k b map s ∷ [])
+
+abbrev pub showRules : ℕ → ℕ → ℕ → Map → ℕ → ℕ → ℕ → List Rule
+showRules m k b map n w column = lentRules m k b map n w ++ (noSuchColumn k column ∷ tooManyAbsent k map ∷ [])
+
+abbrev pub placeRules : ℕ → List Rule
+placeRules place = noSuchPlace place ∷ []

@@ -1,4 +1,0 @@
--- Laws that belong to no one function.
-pub mod Absent
-pub mod Filling
-pub mod Present

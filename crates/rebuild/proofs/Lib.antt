@@ -1,4 +1,0 @@
--- Laws that belong to no one function.
-pub mod Determined
-pub mod Restored
-pub mod Mended
