@@ -29,8 +29,7 @@ use Rattle.encoding.specs.Sums.{Reads, Summed, Group, Ready}
 pub reads-part : {at s t : List ℕ} {a b seed to : ℕ} → Reads at s b seed to → a ≤ b → length t ≡ length s → Reads at t a seed to
 reads-part r h e = record {
   within = λ x hx. omega (arith, r .within x hx);
-  room = record { inside = omega (arith, r .room .inside); later = r .room .later; whole = λ k. omega (arith, r .room .whole (omega arith)) };
-  near = omega (arith, r .near);
+  room = record { inside = omega (arith, r .room .inside); later = r .room .later; near = omega (arith, r .room .near); whole = λ k. omega (arith, r .room .whole (omega arith)) };
 }
 
 pub summed-none : (s at : List ℕ) (seed to x : ℕ) → Summed s s at seed to x x
@@ -97,14 +96,13 @@ pub group-kept : {g : Grid} {x y : ℕ} {s t : List ℕ} → length t ≡ length
 group-kept e p = record { laid = laid-kept e (p .laid); order = p .order; most = p .most; few = p .few }
 
 pub ready : (fresh : Bool) {g : Grid} {x y : ℕ} {s : List ℕ} {e i first seed to : ℕ} → Group g x y s → e ≤ 1 → i < g .m → g .k * g .column ≤ to
-    → Room (length s) (g .b) first to → first ≤ length s → seed ≡ cond fresh first to → Ready g x y s e i seed to
-ready true {g} {s = s} {to = to} group slant inside past room near e =
-    record { group = group; slant = slant; inside = inside; past = past; room = subst (λ (v : ℕ). Room (length s) (g .b) v to) (sym e) room; near = omega arith }
-ready false group slant inside past room near e = record {
+    → Room (length s) (g .b) first to → seed ≡ cond fresh first to → Ready g x y s e i seed to
+ready true {g} {s = s} {to = to} group slant inside past room e =
+    record { group = group; slant = slant; inside = inside; past = past; room = subst (λ (v : ℕ). Room (length s) (g .b) v to) (sym e) room }
+ready false group slant inside past room e = record {
   group = group;
   slant = slant;
   inside = inside;
   past = past;
-  room = record { inside = room .inside; later = omega arith; whole = λ h. omega (arith, room .inside) };
-  near = omega (arith, room .inside);
+  room = record { inside = room .inside; later = omega arith; near = omega (arith, room .inside); whole = λ h. omega (arith, room .inside) };
 }

@@ -24,7 +24,6 @@ use Rattle.lines.specs.Rows.{Room}
 pub record Reads (at s : List ℕ) (b seed to : ℕ) : Type 0 where
   pub within : Within at (length at) b to
   pub room : Room (length s) b seed to
-  pub near : seed ≤ length s
 
 pub record Summed (s t at : List ℕ) (seed to x y : ℕ) : Type 0 where
   pub size : length t ≡ length s
@@ -44,7 +43,6 @@ pub record Ready (g : Grid) (x y : ℕ) (s : List ℕ) (e i seed to : ℕ) : Typ
   pub inside : i < g .m
   pub past : g .k * g .column ≤ to
   pub room : Room (length s) (g .b) seed to
-  pub near : seed ≤ length s
 
 pub record Grown (fresh : Bool) (g : Grid) (x y : ℕ) (s t : List ℕ) (i j : ℕ) : Type 0 where
   pub size : length t ≡ length s

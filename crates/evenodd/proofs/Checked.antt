@@ -5,7 +5,7 @@ use mathlib.Core.List.{List}
 use Prim.Native.Nat.{ℕ}
 use lib.ListN.{length}
 use Rattle.parity.specs.Stripe.{brokenRows, brokenDiagonals}
-use Rattle.counts.specs.declared.Counts.{Counts}
+use Rattle.counting.specs.declared.Counts.{Counts}
 use Rattle.evenodd.specs.declared.checks.Checked.{Checked}
 use Rattle.inputs.specs.Refusals.{pass, Gives}
 use Rattle.inputs.specs.Rules.{stripeRules}

@@ -1,4 +1,5 @@
 -- Laws that belong to no one function.
+pub mod Laid
 pub mod Checked
 pub mod Restored
 pub mod Mended

@@ -25,9 +25,9 @@ use Rattle.parity.proofs.Columns.{same-column, column-same}
 use Rattle.parity.proofs.Count.{one-pass, few-pass}
 use Rattle.parity.proofs.Theorems.{few-differ}
 use Rattle.parity.proofs.Fits.{rewritten, rewritten-byte, rewritten-other, fits-valid, valid-fits}
-use Rattle.blame.specs.declared.Suspect.{Suspect}
-use Rattle.blame.specs.declared.Suspect.the-variants.{Nothing, Column, Nobody}
-use Rattle.amend.specs.Patches.{Patches}
+use Rattle.locating.specs.declared.Suspect.{Suspect}
+use Rattle.locating.specs.declared.Suspect.the-variants.{Nothing, Column, Nobody}
+use Rattle.evenodd.specs.Patches.{Patches}
 use Rattle.inputs.specs.declared.shapes.Refusal.{Refusal}
 use Rattle.inputs.specs.Refusals.{Verdict, pass, refuse, Gives}
 use Rattle.inputs.specs.Rules.{unmendable, stripeRules, mendRules}

@@ -24,7 +24,7 @@ use Rattle.parity.proofs.Theorems.{exactly-one}
 use Rattle.inputs.specs.declared.maps.Gaps.{Gaps}
 use Rattle.inputs.specs.Absent.{absentBelow, NthAbsent, Counts}
 use Rattle.inputs.proofs.Absent.{absences-below, below-under, others-present}
-use Rattle.repair.specs.Fills.{Gapped, Filled, Fills}
+use Rattle.evenodd.specs.Fills.{Gapped, Filled, Fills}
 use Rattle.inputs.specs.declared.maps.Map.{Map}
 use Rattle.evenodd.specs.declared.restores.Restored.the-variants.{Refused}
 use Rattle.inputs.specs.declared.lent.Given.{Given}
@@ -144,14 +144,13 @@ module _ (m k b : ℕ) (map : Map) (s before : List ℕ) where
     few : gaps .count ≤ 2
     few = let e = absences-below k (map .places) in omega (arith, counts .count, known .few)
 
-    pub restore-gapped : Gapped (record { m = m; b = b; column = c }) k gaps s before
+    pub restore-gapped : Gapped (record { m = m; k = k; b = b; column = c }) gaps s before
     restore-gapped = record {
       shape = shape;
       column = known .lent .numbers .column;
       stripe = known .lent .numbers .stripe;
       held = known .lent .held;
       few = few;
-      none = λ e. let q = counts .first .none (omega (arith, counts .count)) in omega (arith, shape .few, shape .value .most);
       one = λ e. counts .first .found (omega (arith, counts .count)) .0;
       two = order (k + 2) (map .places) gaps counts;
     }

@@ -9,7 +9,7 @@ use mathlib.Core.List.{List}
 use Prim.Native.Nat.{ℕ}
 use lib.ListN.{length}
 use Rattle.parity.specs.Stripe.{Intact, brokenRows, brokenDiagonals}
-use Rattle.counts.specs.declared.Counts.{Counts}
+use Rattle.counting.specs.declared.Counts.{Counts}
 use Rattle.evenodd.specs.declared.checks.Checked.{Checked}
 use Rattle.evenodd.specs.declared.checks.Checked.the-variants as checked
 use Rattle.inputs.specs.Refusals.{Verdict, pass, refuse, Gives}

@@ -1,7 +1,9 @@
 -- What each call promises, that this determines what it gives, and what follows from all promises together.
 pub mod Encodes
 pub mod Checks
+pub mod Fills
 pub mod Restores
+pub mod Patches
 pub mod Mends
 pub mod Shows
 pub mod Determined

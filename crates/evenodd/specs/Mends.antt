@@ -9,8 +9,8 @@ use Prim.Native.Nat.{ℕ, _+_, _<_}
 use lib.Dec.{eqb}
 use Rattle.parity.specs.Stripe.{Valid}
 use Rattle.parity.specs.Presence.{DifferIn}
-use Rattle.blame.specs.declared.Suspect.{Suspect}
-use Rattle.blame.specs.declared.Suspect.the-variants.{Nothing, Column, Nobody}
+use Rattle.locating.specs.declared.Suspect.{Suspect}
+use Rattle.locating.specs.declared.Suspect.the-variants.{Nothing, Column, Nobody}
 use Rattle.evenodd.specs.declared.mends.Mended.{Mended}
 use Rattle.evenodd.specs.declared.mends.Mended.the-variants as mended
 use Rattle.inputs.specs.declared.shapes.Refusal.the-variants.{Unmendable}

@@ -1,5 +1,5 @@
 // Check.
-use counts::Counts;
+use counting::Counts;
 use inputs::Judged;
 use inputs::Refusal;
 use inputs::judge_stripe;
@@ -36,5 +36,5 @@ pub fn check(m: usize, k: usize, b: usize, stripe: &[u8]) -> Checked
     let Judged::Good { column } = judged else {
         return Checked::Refused(judged.refusal());
     };
-    told(counts::count_broken(stripe, Grid { m, b, column }, k))
+    told(counting::count_broken(stripe, Grid { m, k, b, column }))
 }

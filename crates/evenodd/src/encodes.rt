@@ -19,6 +19,6 @@ pub fn encode(m: usize, k: usize, b: usize, stripe: &mut [u8]) -> Encoded
     let Judged::Good { column } = judged else {
         return Encoded::Refused(judged.refusal());
     };
-    parities::put_parity(stripe, Grid { m, b, column }, k);
+    encoding::put_parity(stripe, Grid { m, k, b, column });
     Encoded::Done
 }

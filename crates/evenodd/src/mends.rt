@@ -1,11 +1,12 @@
 // Mend.
-use blame::Suspect;
 use inputs::Judged;
 use inputs::Refusal;
 use inputs::judge_stripe;
 use lines::Grid;
+use locating::Suspect;
 ghost use mathlib.Core.Path.{_≡_};
 ghost use Rattle.evenodd.specs.Mends.{Mends, mendedBy};
+ghost use Rattle.evenodd.specs.Patches.{Good, Patches};
 
 // What mend answers: the stripe is intact, or the column that it rewrote; or why not.
 pub enum Mended {
@@ -25,6 +26,22 @@ fn told(suspect: Suspect) -> Mended
     }
 }
 
+// Locates the wrong column, and rewrites it from the others. The answer is that column; Nothing, of a stripe that is sound; or Nobody, where no column alone
+// is wrong, and then nothing is written.
+fn amend(stripe: &mut [u8], g: Grid) -> Suspect
+    requires { ⌜ Good g (now stripe) ⌝ }
+    ensures { λ r. ⌜ Patches (g .m) (g .k) (g .b) (now (stripe .entry)) (now (stripe .exit)) r ⌝ }
+{
+    match locating::locate(stripe, g) {
+        Suspect::Nothing => Suspect::Nothing,
+        Suspect::Nobody => Suspect::Nobody,
+        Suspect::Column(u) => {
+            rewriting::rewrite(stripe, g, u);
+            Suspect::Column(u)
+        }
+    }
+}
+
 // Takes a stripe with every column present. A valid one is intact, and nothing is written; if a valid stripe differs in exactly one
 // column, that column is rewritten.
 pub fn mend(m: usize, k: usize, b: usize, stripe: &mut [u8]) -> Mended
@@ -34,5 +51,5 @@ pub fn mend(m: usize, k: usize, b: usize, stripe: &mut [u8]) -> Mended
     let Judged::Good { column } = judged else {
         return Mended::Refused(judged.refusal());
     };
-    told(amend::amend(stripe, Grid { m, b, column }, k))
+    told(amend(stripe, Grid { m, k, b, column }))
 }

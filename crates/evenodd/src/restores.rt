@@ -6,6 +6,7 @@ use inputs::Refusal;
 use inputs::judge_gaps;
 use lines::Grid;
 ghost use mathlib.Core.Path.{_≡_};
+ghost use Rattle.evenodd.specs.Fills.{Gapped, Fills};
 ghost use Rattle.evenodd.specs.Restores.{Restores, restoredBy};
 
 // What restore answers: how many columns it restored and their numbers, 129 standing for none; or why not.
@@ -32,6 +33,28 @@ fn told(gaps: Gaps, filled: bool) -> Restored
     }
 }
 
+// Restores at most two absent columns to the bench. Where none or one is absent, the others are tested before a byte is written: whether they fit is the
+// answer. A number that is no column's, which stands for none, leaves no column out of the test.
+fn fill_gaps(gaps: Gaps, g: Grid, stripe: &[u8], bench: &mut [u8]) -> bool
+    requires { ⌜ Gapped g gaps (now stripe) (now bench) ⌝ }
+    ensures { λ r. ⌜ Fills (g .m) (g .k) (g .b) gaps (now (stripe .entry)) (now (bench .entry)) (now (bench .exit)) r ⌝ }
+{
+    let count = gaps.count;
+    let first = gaps.first;
+    if count == 2 {
+        restoring::restore_two(stripe, bench, g, first, gaps.second);
+        return true;
+    }
+    if !counting::fits_but(stripe, g, first) {
+        return false;
+    }
+    if count == 1 {
+        restoring::restore_one(stripe, bench, g, first);
+        return true;
+    }
+    true
+}
+
 // Restores the absent columns to the bench: the lowest to its first half, the other to its second. Only the bench is written, and a half
 // that is not needed stays. What stands in an absent column's place is not read.
 pub fn restore(m: usize, k: usize, b: usize, map: Map, stripe: &[u8], bench: &mut [u8]) -> Restored
@@ -41,6 +64,6 @@ pub fn restore(m: usize, k: usize, b: usize, map: Map, stripe: &[u8], bench: &mu
     let Given::Good { column, gaps } = judged else {
         return Restored::Refused(judged.refusal());
     };
-    let filled = repair::restore_gaps(gaps, Grid { m, b, column }, k, stripe, bench);
+    let filled = fill_gaps(gaps, Grid { m, k, b, column }, stripe, bench);
     told(gaps, filled)
 }

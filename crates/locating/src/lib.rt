@@ -1,5 +1,9 @@
-// Which column of a stripe is the wrong one. One lane that breaks tells which column alone can be it. No bench is needed: the sums are set in room
-// of two cells, [a line | S].
+// Which column of a stripe is the wrong one. One lane that breaks tells which column alone can be it; then every lane is asked. No bench is needed:
+// the sums are set in room of two cells, [a line | S].
+mod confirming;
+
+pub use confirming::locate;
+use lines::Grid;
 ghost use mathlib.Core.Path.{_≡_};
 ghost use Prim.Native.Nat.{_*_, _-_, _≤_, _<_};
 ghost use lib.ListN.{length, getD};
@@ -7,7 +11,6 @@ ghost use Rattle.parity.specs.Equations.{Holds};
 ghost use Rattle.parity.specs.Stripe.{lane};
 ghost use Rattle.cells.specs.Runs.{Put};
 ghost use Rattle.locating.specs.Locating.{Suspects, Searched, broken, Ready, First, Odd, Breaks, Amounts, Some, Turned, Whether, Blames};
-use lines::Grid;
 
 // The column that can be the wrong one, if any is wrong.
 pub enum Suspect {

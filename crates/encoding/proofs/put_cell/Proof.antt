@@ -35,7 +35,6 @@ put-all-requires c κs =
     record {
       within = within-part (y .last .0) (y .result) (omega arith) (a .g .b) (a .to) (y .ensures .within (a .to) (omega (arith, z .pre .past)) (λ x h. absurd (omega arith)));
       room = z .pre .room;
-      near = z .pre .near;
     }
 
 same-length : tie.Need-same-length

@@ -40,7 +40,7 @@ put-cell-requires c κs =
     let p = c .before .before .before .before .pre in
     let inside = cell-end (a .g .m) (a .g .b) (a .i) (p .1) in
     ready (eqb (a .t0) 0) (p .0) (omega arith) (omega (arith, p .1)) (omega arith)
-    (record { inside = omega (arith, inside, p .0 .laid); later = omega (arith, inside, p .0 .laid); whole = λ h. omega arith }) (omega arith) (c .seed-place .ensures)
+    (record { inside = omega (arith, inside, p .0 .laid); later = omega (arith, inside, p .0 .laid); near = omega arith; whole = λ h. omega arith }) (c .seed-place .ensures)
 
 last-place-requires : tie.Need-last-place-requires
 last-place-requires c κs =
@@ -59,7 +59,7 @@ put-cell-requires-2 c κs =
     let inside = cell-end (a .g .m) (a .g .b) (a .i) (p .1) in
     let end = last-cell (p .0 .laid .sized) 0 in
     ready (eqb (a .t0) 0) (group-kept size (p .0)) (omega arith) (omega (arith, p .1)) (omega arith)
-    (record { inside = omega (arith, size, inside, p .0 .laid); later = omega (arith, last, end, inside, p .0 .laid); whole = λ h. omega (arith, size, last, end, p .0 .laid) }) (omega (arith, size, last, end, p .0 .laid)) (c .seed-place2 .ensures)
+    (record { inside = omega (arith, size, inside, p .0 .laid); later = omega (arith, last, end, inside, p .0 .laid); near = omega (arith, size, last, end, p .0 .laid); whole = λ h. omega (arith, size, last, end, p .0 .laid) }) (c .seed-place2 .ensures)
 
 same-length : tie.Need-same-length
 same-length c = search needs

@@ -47,8 +47,8 @@ put-cell-requires c κs =
     ready (eqb (y .t) 0)
     (record { laid = laid-kept (y .inv .1) p; order = omega arith; most = e .1; few = e .2 })
     (omega arith) (omega (arith, p .sized .big)) (omega (arith, last))
-    (record { inside = omega (arith, last, end, p .whole, y .inv .1); later = omega (arith, last, end, p .whole); whole = λ h. absurd (omega (arith, y .inv .1)) })
-    (omega (arith, y .inv .1)) (c .before .seed-place .ensures)
+    (record { inside = omega (arith, last, end, p .whole, y .inv .1); later = omega (arith, last, end, p .whole); near = omega (arith, y .inv .1); whole = λ h. absurd (omega (arith, y .inv .1)) })
+    (c .before .seed-place .ensures)
 
 loop-less : tie.Need-loop-less Inv-loop μ-loop
 loop-less c = search needs

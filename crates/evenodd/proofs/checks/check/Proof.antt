@@ -3,11 +3,11 @@ use mathlib.Core.Path.{sym}
 use mathlib.Core.List.{[]}
 use lib.ListN.{length}
 use denote.Ref.{now}
-use Rattle.lines.proofs.Whole.{sized}
 use Rattle.inputs.specs.Rules.{stripeRules}
 use Rattle.inputs.proofs.Rules.{passes-not}
-use Rattle.inputs.proofs.Tests.{told-refused, Numbers, stripe-good, stripe-long}
+use Rattle.inputs.proofs.Tests.{told-refused, Numbers, stripe-good}
 use Rattle.inputs.proofs.Stripe.{stripe-passed}
+use Rattle.evenodd.proofs.Laid.{laid}
 use Rattle.evenodd.proofs.Checked.{says-checks}
 use Rattle.evenodd.proofs.checks.check.Statement.{statement}
 use Rattle.evenodd.proofs.checks.check.Tie as tie
@@ -35,7 +35,7 @@ returns c =
     record { told = told-refused (stripeRules (a .m) (a .k) (a .b) (length (now (a .stripe)))) [] (at .judge-stripe .result) (at .judge-stripe .ensures .told) (c .before .enum-told .given .1) (c .refusal .ensures); counted = λ e. absurd (passes-not _ (sym e)) }
 
 count-broken-requires : tie.Need-count-broken-requires
-count-broken-requires c κs = let n = good c in (sized (n .shape) (n .column), n .shape .few, stripe-long n)
+count-broken-requires c κs = let n = good c in laid (n .shape) (n .column) (n .stripe)
 
 told-requires : tie.Need-told-requires
 told-requires c κs = tt

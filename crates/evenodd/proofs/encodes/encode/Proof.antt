@@ -7,10 +7,10 @@ use denote.Ref.{now}
 use borrow.Author.Needs.{needs}
 use Rattle.parity.proofs.Columns.{column-same}
 use Rattle.lines.proofs.Cells.{cell-kept}
-use Rattle.lines.proofs.Whole.{sized}
 use Rattle.inputs.specs.Rules.{stripeRules}
-use Rattle.inputs.proofs.Tests.{told-refused, Numbers, stripe-good, stripe-long}
+use Rattle.inputs.proofs.Tests.{told-refused, Numbers, stripe-good}
 use Rattle.inputs.proofs.Stripe.{stripe-passed}
+use Rattle.evenodd.proofs.Laid.{laid}
 use Rattle.evenodd.proofs.encodes.encode.Statement.{statement}
 use Rattle.evenodd.proofs.encodes.encode.Tie as tie
 
@@ -37,7 +37,7 @@ returns c =
     record { told = told-refused (stripeRules (a .m) (a .k) (a .b) (length (now (a .stripe)))) [] (at .judge-stripe .result) (at .judge-stripe .ensures .told) (c .before .enum-told .given .1) (c .refusal .ensures); written = refl }
 
 put-parity-requires : tie.Need-put-parity-requires
-put-parity-requires c κs = let n = good (c .before) in (sized (n .shape) (n .column), n .shape .real, n .shape .few, stripe-long n)
+put-parity-requires c κs = let n = good (c .before) in laid (n .shape) (n .column) (n .stripe)
 
 same-length : tie.Need-same-length
 same-length c = search needs

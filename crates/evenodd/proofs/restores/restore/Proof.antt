@@ -37,8 +37,8 @@ returns c =
     let a = at .before .before .before .args in
     restore-refused (a .m) (a .k) (a .b) (a .map) (now (a .stripe)) (now (a .bench)) (at .judge-gaps .result) (at .judge-gaps .ensures) (c .before .enum-told .given .1) (c .refusal .ensures)
 
-restore-gaps-requires : tie.Need-restore-gaps-requires
-restore-gaps-requires c κs =
+fill-gaps-requires : tie.Need-fill-gaps-requires
+fill-gaps-requires c κs =
     let z = c .before in
     let a = z .before .before .before .before .before .before .args in
     restore-gapped (a .m) (a .k) (a .b) (a .map) (now (a .stripe)) (now (a .bench)) (good z)
@@ -54,9 +54,9 @@ returns-2 c =
     let r = c .before .before .before in
     let z = r .before .before in
     let a = z .before .before .before .before .before .before .args in
-    let after = r .restore-gaps .last .1 .1 .1 .1 .0 in
+    let after = r .fill-gaps .last .1 .1 .1 .0 in
     subst (Restores (a .m) (a .k) (a .b) (a .map) (now (a .stripe)) (now (a .bench)) after) (sym (c .told .ensures))
-    (restore-told (a .m) (a .k) (a .b) (a .map) (now (a .stripe)) (now (a .bench)) (good z) (stripe z) after (r .restore-gaps .result) (r .restore-gaps .ensures))
+    (restore-told (a .m) (a .k) (a .b) (a .map) (now (a .stripe)) (now (a .bench)) (good z) (stripe z) after (r .fill-gaps .result) (r .fill-gaps .ensures))
 
 pub restore-spec : {M : Type 1} → statement M
 restore-spec =
@@ -67,7 +67,7 @@ restore-spec =
     enum-told
     refusal-requires
     returns
-    restore-gaps-requires
+    fill-gaps-requires
     told-requires
     same-length
     returns-2)

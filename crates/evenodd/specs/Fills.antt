@@ -10,18 +10,17 @@ use lib.ListN.{length}
 use Rattle.parity.specs.Shape.{Shape, columnLength, stripeLength, benchLength}
 use Rattle.parity.specs.Candidate.{FitsBut}
 use Rattle.lines.specs.declared.Grid.{Grid}
-use Rattle.columns.specs.Columns.{OneRestored, TwoRestored}
+use Rattle.restoring.specs.Restoring.{OneRestored, TwoRestored}
 use Rattle.inputs.specs.declared.maps.Gaps.{Gaps}
 
-pub record Gapped (g : Grid) (k : ℕ) (gaps : Gaps) (s bench : List ℕ) : Type 0 where
-  pub shape : Shape (g .m) k (g .b)
+pub record Gapped (g : Grid) (gaps : Gaps) (s bench : List ℕ) : Type 0 where
+  pub shape : Shape (g .m) (g .k) (g .b)
   pub column : g .column ≡ columnLength (g .m) (g .b)
-  pub stripe : length s ≡ stripeLength (g .m) k (g .b)
+  pub stripe : length s ≡ stripeLength (g .m) (g .k) (g .b)
   pub held : length bench ≡ benchLength (g .m) (g .b)
   pub few : gaps .count ≤ 2
-  pub none : gaps .count ≡ 0 → k ≤ gaps .first
-  pub one : gaps .count ≡ 1 → gaps .first < k + 2
-  pub two : gaps .count ≡ 2 → (gaps .first < gaps .second) × (gaps .second < k + 2)
+  pub one : gaps .count ≡ 1 → gaps .first < g .k + 2
+  pub two : gaps .count ≡ 2 → (gaps .first < gaps .second) × (gaps .second < g .k + 2)
 
 pub record Filled (m k b : ℕ) (gaps : Gaps) (s before after : List ℕ) : Type 0 where
   pub fits : gaps .count ≤ 1 → FitsBut m k b (gaps .first) s

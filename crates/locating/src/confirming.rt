@@ -1,0 +1,29 @@
+// The wrong column of a stripe, if one alone is: the suspect of one lane, confirmed by every lane.
+use crate::Suspect;
+use crate::find_suspect;
+use lines::Grid;
+ghost use Rattle.locating.specs.Locating.{Suspects, Searched, Located};
+ghost use Rattle.locating.specs.declared.Suspect.the-variants.{Column};
+
+// Column u alone can be the wrong one: it is, where the others fit a valid stripe.
+fn confirm(s: &[u8], g: Grid, u: usize) -> Suspect
+    requires { ⌜ Searched g (now s) × Suspects (g .m) (g .k) (g .b) (now s) (Column u) ⌝ }
+    ensures { λ r. ⌜ Located (g .m) (g .k) (g .b) (now (s .entry)) r ⌝ }
+{
+    if counting::fits_but(s, g, u) {
+        return Suspect::Column(u);
+    }
+    Suspect::Nobody
+}
+
+// Which column of the stripe is the wrong one: Nothing where the stripe is valid, Nobody where no column alone is.
+pub fn locate(s: &[u8], g: Grid) -> Suspect
+    requires { ⌜ Searched g (now s) ⌝ }
+    ensures { λ r. ⌜ Located (g .m) (g .k) (g .b) (now (s .entry)) r ⌝ }
+{
+    match find_suspect(s, g) {
+        Suspect::Nothing => Suspect::Nothing,
+        Suspect::Nobody => Suspect::Nobody,
+        Suspect::Column(u) => confirm(s, g, u),
+    }
+}
