@@ -54,7 +54,7 @@ add-columns-requires-4 c κs =
     record {
       sized = z .pre .1 .sized;
       whole = omega (arith, z .pre .0, c .before .before .before .before .before .before .before .before .before .add-columns2 .ensures .size, c .before .before .before .before .before .add-columns3 .ensures .size);
-      shift = subst (λ (x : ℕ). x < a .g .m) (sym (c .before .row-above .ensures)) (back-lt (a .g .m) 0 (a .u) (omega (arith, z .pre .1 .sized .big)));
+      shift = subst (λ (x : ℕ). x < a .g .m) (sym (c .before .row-above .ensures)) (back-lt _ _ _ (omega (arith, z .pre .1 .sized .big)));
       crosses = row-crosses (z .pre .1 .sized) (z .pre .1 .few) (z .pre .1 .whole) (omega (arith, z .pre .1 .sized .big)) (omega arith) (omega arith);
     }
 
