@@ -1,4 +1,4 @@
-pub mod Amounts
+pub mod Breaking
 pub mod Buts
 pub mod Bands
 pub mod Gathers

@@ -1,37 +1,28 @@
 -- The columns other than u fit a valid stripe exactly when no line of `lineBut` differs from line m - 1.
---   rest-holds, holds-rest    so in one lane no line differs exactly when the candidate's equations hold
---   none-holds, holds-none    the same where no column is left out
---   fits-one, fits-none       and in all lanes, with a column left out and with none
+--   rest-holds, holds-rest    in one lane, with a column left out: no line differs exactly when the candidate's equations hold
+--   none-holds, holds-none    in one lane, with none left out
+--   fits-one, fits-none       in all lanes, with a column left out and with none
+--   breaks-none               with none left out, where a diagonal breaks
 --   broken-rows, broken-diagonals   what is counted are the amounts by which rows and diagonals break
---   breaks-none               with none, where a diagonal breaks
-use mathlib.Core.Path.{_≡_, sym, ap, ap₂, _∙_}
+use mathlib.Core.Path.{_≡_, sym, ap, _∙_}
 use mathlib.Core.Logic.{_↔_}
 use mathlib.Core.Bool.{not, true, false, false≢true}
 use mathlib.Core.List.{List}
 use Prim.Native.Nat.{ℕ, _+_, _-_, _≤_, _<_}
-use native.Mathlib.Nat.{one-mul, le-refl}
 use native.Mathlib.Omega.{arith}
 use lib.Dec.{eqb}
 use borrow.Author.Tests.{eq-eqb, eqb-true}
-use Rattle.parity.specs.Xor.{_⊕_}
-use Rattle.parity.specs.Equations.{Lane, back, amountD, Holds}
+use Rattle.parity.specs.Equations.{Lane, Holds}
 use Rattle.parity.specs.Stripe.{lane, brokenRows, brokenDiagonals}
 use Rattle.parity.specs.Candidate.{candidate, FitsBut}
-use Rattle.parity.proofs.Xor.{xor}
 use Rattle.parity.proofs.Count.{count-cong, some-cong}
 use Rattle.parity.proofs.Cells.{holds-same}
-use Rattle.parity.proofs.Candidate.{rowAmount, candidate-other, candidate-H, candidate-D}
+use Rattle.parity.proofs.Candidate.{candidate-other, candidate-H}
 use Rattle.parity.proofs.Suspects.{hold-h, hold-d, amounts-hold, candidate-H-h, candidate-H-d, candidate-D-h, candidate-D-d}
 use Rattle.cells.proofs.Parts.{by-order}
-use Rattle.lines.specs.Lines.{real, line}
-use Rattle.lines.proofs.Lines.{back-lt, real-out}
-use Rattle.lines.proofs.Equations.{row-at}
-use Rattle.lines.proofs.Valid.{line-without}
-use Rattle.lines.proofs.Amounts.{diagonal-lines}
-use Rattle.lines.proofs.Places.{without-one}
 use Rattle.counting.specs.Counting.{breaking}
 use Rattle.counting.proofs.Buts.{rest, rest-H, rest-D, rest-data}
-use Rattle.counting.proofs.Amounts.{breaking-zero, zero-breaking}
+use Rattle.counting.proofs.Breaking.{breaking-zero, zero-breaking}
 
 module _ (m k : ℕ) (big : 1 < m) (few : k ≤ m) (a : Lane) where
   abbrev rests : ℕ → ℕ → ℕ

@@ -42,8 +42,8 @@ pub(crate) fn find_piece(at: &mut [usize], g: Grid, piece: Piece) -> usize
     let columns = Columns {
         from: piece.from,
         to: piece.to,
-        u,
-        v: u,
+        u: piece.u,
+        v: piece.u,
     };
     if g.k < u {
         return lines::find_line(at, g, 0, d, columns);

@@ -1,4 +1,4 @@
--- `counting::count_at_once` meets its contract: the lines are held to an empty cell, which is zero as row m - 1 is, or to line m - 1.
+-- `counting::long::count_at_once` meets its contract: the lines are held to an empty cell, which is zero as row m - 1 is, or to line m - 1.
 use mathlib.Core.Path.{sym, ap, _∙_}
 use Prim.Native.Nat.{ℕ, _-_}
 use denote.Ref.{now}
@@ -7,7 +7,7 @@ use Rattle.parity.specs.Stripe.{lane}
 use Rattle.cells.proofs.Puts.{put-start}
 use Rattle.counting.specs.Counting.{testLine}
 use Rattle.counting.proofs.Buts.{but-last}
-use Rattle.counting.proofs.Amounts.{breaking-cong}
+use Rattle.counting.proofs.Breaking.{breaking-cong}
 use borrow.Author.Needs.{needs}
 use Rattle.counting.proofs.long.count_at_once.Statement.{statement}
 use Rattle.counting.proofs.long.count_at_once.Tie as tie

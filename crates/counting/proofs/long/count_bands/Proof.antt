@@ -1,11 +1,11 @@
--- `counting::count_bands` meets its contract. The invariant: c is the count of the lines before `first`, and the cell at `seed` is as it was.
+-- `counting::long::count_bands` meets its contract. The invariant: c is the count of the lines before `first`, and the cell at `seed` is as it was.
 use mathlib.Core.Path.{_≡_, refl, sym, ap, ap₂, _∙_}
 use Prim.Native.Nat.{ℕ, _+_, _*_, _-_, _≤_, _<_}
 use lib.ListN.{length, getD}
 use denote.Ref.{now}
 use Rattle.parity.specs.Xor.{_⊕_}
 use Rattle.counting.specs.Counting.{breaking, testLine}
-use Rattle.counting.proofs.Amounts.{breaking-none, breaking-next, breaking-most, breaking-cong}
+use Rattle.counting.proofs.Breaking.{breaking-none, breaking-next, breaking-most, breaking-cong}
 use Rattle.counting.proofs.Bands.{band-some, band-room, band-at}
 use borrow.Author.Needs.{needs}
 use native.Mathlib.Omega.{arith}
@@ -78,7 +78,7 @@ loop-again c =
     let z = c .before .before .before .before .before .before .grow-band in
     let f : ℕ → ℕ → ℕ = λ l d. getD (now (a .w)) (a .seed + l) 0 ⊕ testLine (a .g) (now (a .s)) (a .u) d l in
     let same : c .count-cells .result ≡ breaking (n .result) (a .g .b) (λ l i. f l (y .first + i)) =
-        c .count-cells .ensures ∙ breaking-cong (n .result) (a .g .b) (λ i l h k. band-at (z .ensures) i l h k ∙ ap (λ (v : ℕ). v ⊕ testLine (a .g) (now (a .s)) (a .u) (y .first + i) l) (y .inv .4 l k)) in
+    c .count-cells .ensures ∙ breaking-cong (n .result) (a .g .b) (λ i l h k. band-at (z .ensures) i l h k ∙ ap (λ (v : ℕ). v ⊕ testLine (a .g) (now (a .s)) (a .u) (y .first + i) l) (y .inv .4 l k)) in
     let e : y .c + c .count-cells .result ≡ breaking (y .first + n .result) (a .g .b) f = ap₂ _+_ (y .inv .5) same ∙ sym (breaking-next (y .first) (n .result) (a .g .b) f) in (
       omega (arith, y .inv .0, z .kept),
       omega (arith, y .inv .1, z .ensures .size),

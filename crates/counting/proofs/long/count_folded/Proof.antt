@@ -1,4 +1,4 @@
--- `counting::count_folded` meets its contract. The invariant: n is the count of the lines before d.
+-- `counting::long::count_folded` meets its contract. The invariant: n is the count of the lines before d.
 use mathlib.Core.Path.{_≡_, sym, ap, _∙_}
 use mathlib.Core.Logic.{⊎-elim}
 use Prim.Native.Nat.{ℕ, _+_, _-_, _≤_}
@@ -6,7 +6,7 @@ use lib.ListN.{length, getD}
 use denote.Ref.{now}
 use Rattle.parity.specs.Xor.{_⊕_}
 use Rattle.counting.specs.Counting.{breaking, testLine}
-use Rattle.counting.proofs.Amounts.{breaking-none, breaking-same, breaking-more}
+use Rattle.counting.proofs.Breaking.{breaking-none, breaking-same, breaking-more}
 use borrow.Author.Needs.{needs}
 use native.Mathlib.Omega.{arith}
 use Rattle.counting.proofs.long.count_folded.Statement.{statement}

@@ -1,10 +1,10 @@
--- `counting::count_in_bands` meets its contract: line m - 1 stands after the band, and each other line is held to it.
+-- `counting::long::count_in_bands` meets its contract: line m - 1 stands after the band, and each other line is held to it.
 use mathlib.Core.Path.{ap, _∙_}
 use Prim.Native.Nat.{ℕ, _-_}
 use denote.Ref.{now}
 use Rattle.parity.specs.Xor.{_⊕_}
 use Rattle.counting.specs.Counting.{testLine}
-use Rattle.counting.proofs.Amounts.{breaking-cong}
+use Rattle.counting.proofs.Breaking.{breaking-cong}
 use borrow.Author.Needs.{needs}
 use Rattle.counting.proofs.long.count_in_bands.Statement.{statement}
 use Rattle.counting.proofs.long.count_in_bands.Tie as tie

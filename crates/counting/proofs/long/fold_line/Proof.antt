@@ -1,11 +1,11 @@
--- `counting::fold_line` meets its contract: the cells at the places that were found add up to the line.
+-- `counting::long::fold_line` meets its contract: the cells at the places that were found add up to the line.
 use mathlib.Core.Path.{ap}
 use Prim.Native.Nat.{ℕ}
 use lib.ListN.{length, getD}
 use denote.Ref.{now}
 use Rattle.parity.specs.Xor.{_⊕_}
 use Rattle.cells.proofs.Tells.{tells-same}
-use Rattle.counting.proofs.Amounts.{listed-total, listed-in}
+use Rattle.counting.proofs.Breaking.{listed-total, listed-in}
 use borrow.Author.Needs.{needs}
 use native.Mathlib.Omega.{arith}
 use Rattle.counting.proofs.long.fold_line.Statement.{statement}

@@ -1,4 +1,4 @@
--- `counting::grow_band` meets its contract. The invariant: the columns below t are added.
+-- `counting::long::grow_band` meets its contract. The invariant: the columns below t are added.
 use mathlib.Core.Path.{_≡_, subst}
 use Prim.Native.Nat.{ℕ, _+_, _-_, _≤_}
 use lib.ListN.{length, getD}

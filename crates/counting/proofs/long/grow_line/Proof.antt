@@ -1,4 +1,4 @@
--- `counting::grow_line` meets its contract: the cells at the places that were found add up to the piece.
+-- `counting::long::grow_line` meets its contract: the cells at the places that were found add up to the piece.
 use mathlib.Core.Path.{ap₂}
 use mathlib.Core.Logic.{⊎-elim}
 use lib.ListN.{length}
@@ -7,7 +7,7 @@ use Rattle.parity.specs.Xor.{_⊕_}
 use Rattle.cells.proofs.Puts.{put-same}
 use Rattle.sums.proofs.Sweeps.{begun-at, begun-room}
 use Rattle.counting.specs.Counting.{columnsOf}
-use Rattle.counting.proofs.Amounts.{listed-total, listed-in}
+use Rattle.counting.proofs.Breaking.{listed-total, listed-in}
 use Rattle.counting.proofs.Bands.{begin-first, begin-next}
 use borrow.Author.Needs.{needs}
 use native.Mathlib.Omega.{arith}

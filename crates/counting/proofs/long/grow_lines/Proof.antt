@@ -1,6 +1,6 @@
--- `counting::grow_lines` meets its contract. The invariant: the cells before r have their pieces.
+-- `counting::long::grow_lines` meets its contract. The invariant: the cells before r have their pieces.
 use mathlib.Core.Path.{_≡_}
-use Prim.Native.Nat.{ℕ, _+_, _*_, _-_, _≤_}
+use Prim.Native.Nat.{_*_, _-_, _≤_}
 use lib.ListN.{length}
 use denote.Ref.{now}
 use Rattle.parity.specs.Xor.{_⊕_}

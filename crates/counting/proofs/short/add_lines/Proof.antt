@@ -1,4 +1,4 @@
--- `counting::add_lines` meets its contract: rows; or diagonals, with D's cells; or also rows above, where a data column is left out.
+-- `counting::short::add_lines` meets its contract: rows; or diagonals, with D's cells; or also rows above, where a data column is left out.
 use mathlib.Core.Path.{_≡_, sym, ap, _∙_, subst}
 use Prim.Native.Nat.{ℕ, _+_, _*_, _-_, _%_, _<_}
 use lib.ListN.{getD}
@@ -10,7 +10,7 @@ use Rattle.lines.specs.Lines.{span}
 use Rattle.lines.specs.Places.{without}
 use Rattle.lines.proofs.Lines.{back-lt}
 use Rattle.lines.proofs.Rows.{lined-same, lined-grown}
-use Rattle.lines.proofs.Whole.{row-crosses, diagonal-crosses}
+use Rattle.lines.proofs.Whole.{row-crosses}
 use Rattle.counting.proofs.Wholes.{whole-row, whole-diagonal, whole-data}
 use borrow.Author.Needs.{needs}
 use native.Mathlib.Omega.{arith}
@@ -54,7 +54,7 @@ add-columns-requires-4 c κs =
     record {
       sized = z .pre .1 .sized;
       whole = omega (arith, z .pre .0, c .before .before .before .before .before .before .before .before .before .add-columns2 .ensures .size, c .before .before .before .before .before .add-columns3 .ensures .size);
-      shift = subst (λ (x : ℕ). x < a .g .m) (sym (c .before .row-above .ensures)) (back-lt (a .g .m) 0 (a .u) (omega (arith, z .pre .1 .sized .big)));
+      shift = subst (λ (x : ℕ). x < a .g .m) (sym (c .before .row-above .ensures)) (back-lt _ _ _ (omega (arith, z .pre .1 .sized .big)));
       crosses = row-crosses (z .pre .1 .sized) (z .pre .1 .few) (z .pre .1 .whole) (omega (arith, z .pre .1 .sized .big)) (omega arith) (omega arith);
     }
 

@@ -1,11 +1,11 @@
--- `counting::count_columns` meets its contract: every cell starts with line m - 1, the lines are added, and what is not zero is counted.
+-- `counting::short::count_columns` meets its contract: every cell starts with line m - 1, the lines are added, and what is not zero is counted.
 use mathlib.Core.Path.{_∙_}
 use Prim.Native.Nat.{_-_}
 use denote.Ref.{now}
 use Rattle.lines.proofs.Rows.{lined-grown}
 use Rattle.lines.proofs.Whole.{column-room}
 use Rattle.counting.specs.Counting.{testLine}
-use Rattle.counting.proofs.Amounts.{breaking-cong}
+use Rattle.counting.proofs.Breaking.{breaking-cong}
 use Rattle.counting.proofs.Bands.{band-at}
 use borrow.Author.Needs.{needs}
 use native.Mathlib.Omega.{arith}

@@ -1,4 +1,4 @@
--- `counting::count_short` meets its contract: a column of short cells fits.
+-- `counting::short::count_short` meets its contract: a column of short cells fits.
 use Rattle.lines.proofs.Whole.{short-column}
 use borrow.Author.Needs.{needs}
 use native.Mathlib.Omega.{arith}

@@ -1,4 +1,4 @@
--- `counting::start_lines` meets its contract: zero for rows, otherwise line m - 1 in the last cell, which is then repeated.
+-- `counting::short::start_lines` meets its contract: zero for rows, otherwise line m - 1 in the last cell, which is then repeated.
 use mathlib.Core.Path.{_≡_, sym}
 use Prim.Native.Nat.{_*_, _-_}
 use lib.ListN.{length}

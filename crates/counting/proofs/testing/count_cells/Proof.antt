@@ -1,4 +1,4 @@
--- `counting::count_cells` meets its contract. The invariant: c is the count of the cells before r. Where all bytes are zero, no cell is set.
+-- `counting::testing::count_cells` meets its contract. The invariant: c is the count of the cells before r. Where all bytes are zero, no cell is set.
 use mathlib.Core.Path.{_≡_, sym, ap, _∙_}
 use mathlib.Core.Logic.{⊎-elim}
 use Prim.Native.Nat.{ℕ, _+_, _*_, _-_, _≤_}
@@ -7,7 +7,7 @@ use denote.Ref.{now}
 use Rattle.cells.proofs.Parts.{part-at, parts-end}
 use Rattle.lines.proofs.Places.{part-length}
 use Rattle.counting.specs.Counting.{breaking}
-use Rattle.counting.proofs.Amounts.{breaking-none, breaking-same, breaking-more, zero-breaking}
+use Rattle.counting.proofs.Breaking.{breaking-none, breaking-same, breaking-more, zero-breaking}
 use Rattle.counting.proofs.Bands.{tells-part}
 use borrow.Author.Needs.{needs}
 use native.Mathlib.Omega.{arith}

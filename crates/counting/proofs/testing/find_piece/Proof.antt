@@ -1,4 +1,4 @@
--- `counting::find_piece` meets its contract: a row, a diagonal, and both where a data column is left out.
+-- `counting::testing::find_piece` meets its contract: a row, a diagonal, and both where a data column is left out.
 use mathlib.Core.Path.{refl, sym, ap, _∙_, subst}
 use Prim.Native.Nat.{ℕ, _+_, _*_, _<_}
 use native.Mathlib.Nat.{le-refl}

@@ -1,4 +1,4 @@
--- `counting::find_row` meets its contract: the end first, where the columns are the first, and then the cells in the columns.
+-- `counting::testing::find_row` meets its contract: the end first, where the columns are the first, and then the cells in the columns.
 use mathlib.Core.Path.{_≡_, sym, refl, ap, _∙_}
 use Prim.Native.Nat.{ℕ, _+_, _*_, _≤_}
 use native.Mathlib.Nat.{mul-le-mul-right}

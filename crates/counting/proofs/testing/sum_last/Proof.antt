@@ -1,4 +1,4 @@
--- `counting::sum_last` meets its contract: nothing, and then the cells of line m - 1.
+-- `counting::testing::sum_last` meets its contract: nothing, and then the cells of line m - 1.
 use mathlib.Core.Path.{ap₂, _∙_}
 use Prim.Native.Nat.{_+_}
 use lib.ListN.{length, List·getD-eq-default}
@@ -6,7 +6,7 @@ use denote.Ref.{now}
 use Rattle.parity.specs.Xor.{_⊕_}
 use Rattle.parity.proofs.Xor.{zero-⊕}
 use Rattle.cells.proofs.Puts.{put-same}
-use Rattle.counting.proofs.Amounts.{listed-total, listed-in}
+use Rattle.counting.proofs.Breaking.{listed-total, listed-in}
 use borrow.Author.Needs.{needs}
 use native.Mathlib.Omega.{arith}
 use Rattle.counting.proofs.testing.sum_last.Statement.{statement}

@@ -5,8 +5,7 @@
 use mathlib.Core.Path.{_≡_, refl, sym, ap, _∙_}
 use mathlib.Core.Bool.{Bool, true, false, cond, not}
 use mathlib.Core.List.{List}
-use Prim.Native.Nat.{ℕ, zero, suc, _+_, _*_, _-_, _≤_, _<_}
-use native.Mathlib.Nat.{le-refl, le-trans, mul-le-mul-right}
+use Prim.Native.Nat.{ℕ, zero, suc, _+_, _-_, _≤_, _<_}
 use native.Mathlib.Numerals.{add-one}
 use native.Mathlib.Omega.{arith}
 use lib.ListN.{length}
@@ -18,7 +17,6 @@ use Rattle.parity.proofs.Xor.{zero-⊕}
 use Rattle.parity.proofs.Count.{count-cong, count-most, none-pass, all-fail, some-cong, some-false, false-some}
 use Rattle.cells.specs.Runs.{Tells}
 use Rattle.cells.proofs.Parts.{part}
-use Rattle.lines.specs.Lines.{Sized, Crosses}
 use Rattle.lines.specs.Places.{total, Within, Listed}
 use Rattle.lines.proofs.Places.{total-none, total-part, within-part}
 use Rattle.counting.specs.Counting.{breaking}
@@ -26,7 +24,7 @@ use Rattle.counting.specs.Counting.{breaking}
 -- ---- places
 
 module _ {b z n more : ℕ} {at at′ : List ℕ} {f : List ℕ → ℕ → ℕ} (p : Listed b z 0 n more at at′ f) (room : more ≤ length at) where
-  pub listed-room : n ≤ length at′
+  listed-room : n ≤ length at′
   listed-room = omega (arith, p .most, p .size)
 
   pub listed-total : (s : List ℕ) (l : ℕ) → total (part at′ 0 n) (length (part at′ 0 n)) s l ≡ f s l
