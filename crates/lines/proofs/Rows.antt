@@ -1,5 +1,6 @@
 -- Laws of `Lined`: the cells of a buffer set row after row, and something added time after time.
 --   lined-none, lined-more    no row set, and one row more
+--   run-rows                  a run that was set, row by row
 --   lined-same, lined-count   the same bytes, and the same rows, by another name
 --   Grown n b at w v f        v is w with f r l added at lane l of cell r, of the n cells from `at` on
 --   grown-more                one row more that was added to
@@ -35,6 +36,14 @@ lined-more n b at w u v f p q = record {
       ap (λ (x : ℕ). getD v (at + (x * b + l)) 0) e ∙ ap (λ (x : ℕ). getD v x 0) d ∙ q .inside l k ∙ ap (λ (x : ℕ). f x l) (sym e));
   before = λ x h. q .before x (omega arith) ∙ p .before x h;
   after = λ x h. q .after x (omega arith) ∙ p .after x (omega arith);
+}
+
+pub run-rows : {n b at c : ℕ} {w v : List ℕ} {f : ℕ → ℕ} → c ≡ n * b → Put w v at c f → Lined n b at w v (λ r l. f (r * b + l))
+run-rows {b = b} e q = record {
+  size = q .size;
+  inside = λ r l h k. q .inside (r * b + l) (omega (arith, parts-end b h));
+  before = q .before;
+  after = λ x h. q .after x (omega arith);
 }
 
 pub lined-same : {n b at : ℕ} {w v : List ℕ} {f g : ℕ → ℕ → ℕ} → Lined n b at w v f → ((r l : ℕ) → r < n → l < b → f r l ≡ g r l) → Lined n b at w v g

@@ -3,11 +3,11 @@
 --   row-crosses, diagonal-crosses   rows go through all columns of a stripe, diagonals through the data columns
 --   column-room, short-column       a column has room for its m - 1 cells; a column of short cells is not long
 --   seed-none, no-seed              an empty seed is long enough, and zero
---   whole-line                      row r, shifted by nothing, is row r
+--   whole-line, turned-by           row r, shifted by nothing, is row r; shifted by as much as u rows up, it is the row u rows up
 use mathlib.Core.Path.{_≡_, ap, _∙_}
 use mathlib.Core.List.{List}
 use Prim.Native.Nat.{ℕ, _+_, _*_, _-_, _%_, _≤_, _<_}
-use native.Mathlib.Nat.{mul-le-mul, mul-le-mul-right, mod-eq-of-lt}
+use native.Mathlib.Nat.{mul-le-mul, mul-le-mul-right, mod-eq-of-lt, add-mod-mod}
 use native.Mathlib.Omega.{arith}
 use lib.ListN.{length, getD, length-take, List·getD-eq-default}
 use Rattle.parity.specs.Xor.{_⊕_}
@@ -15,6 +15,7 @@ use Rattle.parity.specs.Shape.{Shape, columnLength}
 use Rattle.parity.proofs.Xor.{zero-⊕}
 use Rattle.cells.proofs.Parts.{part}
 use Rattle.lines.specs.Lines.{Sized, Crosses}
+use Rattle.parity.specs.Equations.{back}
 use Rattle.lines.proofs.Lines.{column-is}
 
 pub sized : {m k b c : ℕ} → Shape m k b → c ≡ columnLength m b → Sized m b c
@@ -62,3 +63,7 @@ no-seed s l {x} e = ap (λ (z : ℕ). z ⊕ x) (List·getD-eq-default (part s 0 
 
 pub whole-line : {m r : ℕ} → r < m → (r + 0) % m ≡ r
 whole-line {m} {r} h = let e : r + 0 ≡ r = omega arith in ap (λ (x : ℕ). x % m) e ∙ mod-eq-of-lt h
+
+pub turned-by : (m r u : ℕ) → (r + back m 0 u) % m ≡ back m r u
+unfolding back
+turned-by m r u = let e : 0 + (m - u) ≡ m - u = omega arith in add-mod-mod r (0 + (m - u)) m ∙ ap (λ (x : ℕ). (r + x) % m) e
