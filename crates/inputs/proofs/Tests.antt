@@ -9,11 +9,10 @@
 --   gaps-refused             where one of these is not so
 use mathlib.Core.Path.{_≡_, refl, sym, ap, _∙_}
 use mathlib.Core.List.{List, [], _∷_, _++_}
-use Prim.Native.Nat.{ℕ, _+_, _*_, _≤_}
+use Prim.Native.Nat.{ℕ, _+_, _≤_}
 use native.Mathlib.Omega.{arith}
 use Rattle.parity.specs.Shape.{Shape, columnLength, stripeLength, benchLength}
 use Rattle.parity.specs.Presence.{absences}
-use Rattle.parity.proofs.Shapes.{whole-stripe}
 use Rattle.inputs.specs.declared.lent.Given.{Given}
 use Rattle.inputs.specs.declared.lent.Given.the-variants as given
 use Rattle.inputs.specs.declared.maps.Gaps.{Gaps}
@@ -51,10 +50,6 @@ pub record Numbers (m k b n c : ℕ) : Type 0 where
   pub shape : Shape m k b
   pub column : c ≡ columnLength m b
   pub stripe : n ≡ stripeLength m k b
-
--- and so the stripe's length, by the column's
-pub stripe-long : {m k b n c : ℕ} → Numbers m k b n c → n ≡ (k + 2) * c
-stripe-long {m} {k} {b} p = p .stripe ∙ sym (whole-stripe m k b (p .column))
 
 module _ (m k b n : ℕ) where
   pub stripe-good : (j : Judged) {c : ℕ} → JudgesStripe m k b n j → j ≡ Good c → Numbers m k b n c

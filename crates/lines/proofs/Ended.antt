@@ -1,5 +1,4 @@
 -- Lines with their ends, and what is left of them when two columns are left out.
---   ended-join                   over some columns, and then over the next
 --   crossing m a e i h n t       what line i with its end has in column t: inside its cell among the first n columns, atEnd its end
 --   row-crossing, row-clear      what a row with H's cell has in a data column or H, and in another
 --   diagonal-crossing            what a diagonal with D's cell has in a data column
@@ -23,7 +22,7 @@ use Rattle.parity.proofs.Xor.{⊕-assoc, ⊕-zero, zero-⊕, ⊕-self, xor}
 use Rattle.cells.proofs.Parts.{by-order}
 use Rattle.lines.specs.Lines.{real, span, ended}
 use Rattle.lines.specs.Places.{without}
-use Rattle.lines.proofs.Lines.{span-none, span-line, span-more, span-join, real-same, span-agree}
+use Rattle.lines.proofs.Lines.{span-none, span-line, span-more, real-same, span-agree}
 use Rattle.lines.proofs.Places.{without-other, first-without, second-without, without-real, without-first, without-second}
 use Rattle.lines.proofs.Equations.{row-at}
 use Rattle.lines.proofs.Valid.{row-is, diagonal-is}
@@ -32,10 +31,6 @@ by-same : (P : Type 0) (x y : ℕ) → (x ≡ y → P) → (x ≢ y → P) → P
 by-same P x y f g = by-order P x y (λ h. g (λ q. absurd (omega arith))) (λ h. by-order P y x (λ k. g (λ q. absurd (omega arith))) (λ k. f (omega arith)))
 
 module _ (m : ℕ) (a : Lane) (e i : ℕ) where
-  pub ended-join : (h x y : ℕ) → ended m a e i h x ⊕ span m a e i x y ≡ ended m a e i h y
-  unfolding ended
-  ended-join h x y = ⊕-assoc (real m a i h) (span m a e i 0 x) (span m a e i x y) ∙ ap (λ (z : ℕ). real m a i h ⊕ z) (span-join m a e i 0 x y)
-
   unfoldable pub inside : ℕ → ℕ → ℕ
   inside n t = cond (ltb t n) (real m a (back m i (e * t)) t) 0
 

@@ -1,32 +1,26 @@
--- Laws of lines: the row of a line, one column more, and a cell read from a lent column.
+-- Laws of lines: the row of a line, one column more, and the bytes that lines depend on.
 --   up-around, up-straight   the row above, as the code finds it
 --   back-none, back-back     no row up; one step up after another
 --   real-in, real-out        rows below m - 1 are the lane's, the others zero
---   cell-read                the lanes of a cell, read from a part of the column, which is a part of the stripe
 --   span-none, span-more, span-join, span-line   a span of no columns, of one column more, of the columns of two, and from column 0 on
 --   real-same, span-agree    a cell of a column, and one of another column that is the same; a span depends on the bytes of its own columns alone
 --   line-but                 a line is what is left of it without column u, and the byte in column u
 --   column-is, column-most, cell-room   a cell lies within its column, and a column is not long
---   crosses-line, crosses-columns, crosses-own, crosses-length   another line, fewer columns, a stripe that ends with them, and one as
---                            long can be followed too
 --   slant-in, slant-next, row-next     what a slant adds up to, column by column
 use mathlib.Core.Path.{_≡_, sym, ap, ap₂, _∙_, subst}
-use mathlib.Core.List.{List}
 use Prim.Native.Nat.{ℕ, suc, _+_, _*_, _-_, _%_, _≤_, _<_}
-use native.Mathlib.Nat.{mod-lt, mod-eq-of-lt, add-mod-right, mod-add-mod, mul-le-mul, mul-le-mul-left, mul-le-mul-right, le-refl, le-trans}
+use native.Mathlib.Nat.{mod-lt, mod-eq-of-lt, add-mod-right, mod-add-mod, mul-le-mul, mul-le-mul-left, le-refl, le-trans}
 use native.Mathlib.Numerals.{add-one}
 use native.Mathlib.Decide.{le-ind}
 use native.Mathlib.Omega.{arith}
-use lib.ListN.{getD}
 use borrow.Author.Tests.{lt-ltb, le-ltb}
 use Rattle.parity.specs.Xor.{_⊕_}
 use Rattle.parity.specs.Sum.{sum}
 use Rattle.parity.specs.Shape.{columnLength}
 use Rattle.parity.specs.Equations.{Lane, back}
-use Rattle.parity.specs.Stripe.{byte, lane}
 use Rattle.parity.proofs.Xor.{⊕-assoc, ⊕-self, ⊕-cancel, zero-⊕}
-use Rattle.cells.proofs.Parts.{part, part-at, parts-end, by-order}
-use Rattle.lines.specs.Lines.{real, line, span, Sized, Crosses}
+use Rattle.cells.proofs.Parts.{parts-end, by-order}
+use Rattle.lines.specs.Lines.{real, line, span, Sized}
 
 pub up-around : (m e r : ℕ) → r < e → e ≤ m → r + m - e ≡ back m r e
 unfolding back
@@ -88,17 +82,6 @@ module _ (m : ℕ) (a : Lane) where
   pub line-but : (e i u n : ℕ) → line m a e i n ≡ span m a e i 0 u ⊕ real m a (back m i (e * u)) u ⊕ span m a e i (u + 1) n
   line-but e i u n = sym (ap (λ (x : ℕ). x ⊕ span m a e i (u + 1) n) (span-more e i 0 u) ∙ span-join e i 0 (u + 1) n ∙ span-line e i n)
 
-pub cell-read : (s : List ℕ) (m b c t r j n : ℕ) → c ≡ columnLength m b → r < m - 1 → r * b + j + n ≤ c → (l : ℕ) → l < n
-    → getD (part (part s (t * c) (t * c + c)) (r * b + j) (r * b + j + n)) l 0 ≡ real m (lane m b s (j + l)) r t
-unfolding byte
-cell-read s m b c t r j n column h room l hl =
-    let q : t * c + (r * b + j + l) ≡ t * c + (r * b + (j + l)) = omega arith in
-    part-at (part s (t * c) (t * c + c)) (r * b + j) (r * b + j + n) l (omega arith)
-    ∙ part-at s (t * c) (t * c + c) (r * b + j + l) (omega arith)
-    ∙ ap (λ (p : ℕ). getD s p 0) q
-    ∙ ap (λ (p : ℕ). getD s (t * p + (r * b + (j + l))) 0) column
-    ∙ sym (real-in m (lane m b s (j + l)) r t h)
-
 -- a cell lies within its column, and a column is not long
 module _ (m b c : ℕ) (z : Sized m b c) where
   pub column-is : c ≡ (m - 1) * b
@@ -122,40 +105,6 @@ module _ (e y m : ℕ) (within : e * y ≤ m) where
 -- the row of a line, one column on
 pub row-next : (m i e t : ℕ) → e * t + e ≤ m → back m (back m i (e * t)) e ≡ back m i (e * (t + 1))
 row-next m i e t h = back-back m i (e * t) e h ∙ ap (back m i) (omega arith)
-
-pub crosses-line : {m c n e i x y : ℕ} (e′ i′ : ℕ) → e′ ≤ e → i′ < m → Crosses m c n e i x y → Crosses m c n e′ i′ x y
-crosses-line {y = y} e′ i′ h l z = record {
-  slant = le-trans h (z .slant);
-  inside = l;
-  order = z .order;
-  within = le-trans (mul-le-mul-right y h) (z .within);
-  most = z .most;
-  columns = z .columns;
-}
-
-pub crosses-columns : {m c n e i x y : ℕ} (x′ y′ : ℕ) → x′ ≤ y′ → y′ ≤ y → Crosses m c n e i x y → Crosses m c n e i x′ y′
-crosses-columns {c = c} {e = e} x′ y′ h l z = record {
-  slant = z .slant;
-  inside = z .inside;
-  order = h;
-  within = le-trans (mul-le-mul-left e l) (z .within);
-  most = le-trans l (z .most);
-  columns = le-trans (mul-le-mul-right c l) (z .columns);
-}
-
--- it ends with the last of those columns
-pub crosses-own : {m c n e i x y : ℕ} → Crosses m c n e i x y → Crosses m c (y * c) e i x y
-crosses-own {c = c} {y = y} z = record {
-  slant = z .slant;
-  inside = z .inside;
-  order = z .order;
-  within = z .within;
-  most = z .most;
-  columns = le-refl (y * c);
-}
-
-pub crosses-length : {m c n n′ e i x y : ℕ} → n′ ≡ n → Crosses m c n e i x y → Crosses m c n′ e i x y
-crosses-length q z = record { slant = z .slant; inside = z .inside; order = z .order; within = z .within; most = z .most; columns = omega (arith, z .columns) }
 
 -- ---- two lanes that have the same bytes in some columns
 

@@ -1,19 +1,13 @@
 -- Whole columns of a whole stripe: what the loops over them ask for, and the lines that they start from.
 --   sized, one-row                  the numbers of a shape, and of a stripe of one row
---   row-crosses, diagonal-crosses   rows go through all columns of a stripe, diagonals through the data columns
+--   row-crosses                     rows go through all columns of a stripe
 --   column-room, short-column       a column has room for its m - 1 cells; a column of short cells is not long
---   seed-none, no-seed              an empty seed is long enough, and zero
 --   whole-line, turned-by           row r, shifted by nothing, is row r; shifted by as much as u rows up, it is the row u rows up
 use mathlib.Core.Path.{_≡_, ap, _∙_}
-use mathlib.Core.List.{List}
 use Prim.Native.Nat.{ℕ, _+_, _*_, _-_, _%_, _≤_, _<_}
 use native.Mathlib.Nat.{mul-le-mul, mul-le-mul-right, mod-eq-of-lt, add-mod-mod}
 use native.Mathlib.Omega.{arith}
-use lib.ListN.{length, getD, length-take, List·getD-eq-default}
-use Rattle.parity.specs.Xor.{_⊕_}
 use Rattle.parity.specs.Shape.{Shape, columnLength}
-use Rattle.parity.proofs.Xor.{zero-⊕}
-use Rattle.cells.proofs.Parts.{part}
 use Rattle.lines.specs.Lines.{Sized, Crosses}
 use Rattle.parity.specs.Equations.{back}
 use Rattle.lines.proofs.Lines.{column-is}
@@ -39,27 +33,11 @@ module _ {m k b c p : ℕ} (z : Sized m b c) (few : k ≤ m) (whole : p ≡ (k +
     columns = columns most;
   }
 
-  pub diagonal-crosses : {i x y : ℕ} → i < m → x ≤ y → y ≤ k → Crosses m c p 1 i x y
-  diagonal-crosses h order most = record {
-    slant = omega arith;
-    inside = h;
-    order = order;
-    within = omega arith;
-    most = omega arith;
-    columns = columns (omega arith);
-  }
-
 pub column-room : {m b c n : ℕ} → Sized m b c → n ≡ c → 0 + (m - 1) * b ≤ n
 column-room {m} {b} {c} z h = omega (arith, column-is m b c z)
 
 pub short-column : {m b c : ℕ} → Sized m b c → b < 128 → c ≤ 16384
 short-column {m} {b} {c} z h = let q : (m - 1) * b ≤ 126 * 127 = mul-le-mul {n₂ = 126} {m₂ = 127} (omega (arith, z .few)) (omega arith) in omega (arith, column-is m b c z)
-
-pub seed-none : (s : List ℕ) (b : ℕ) → 0 < length (part s 0 0) → b ≤ length (part s 0 0)
-seed-none s b h = absurd (omega (arith, length-take 0 s))
-
-pub no-seed : (s : List ℕ) (l : ℕ) {x y : ℕ} → x ≡ y → getD (part s 0 0) l 0 ⊕ x ≡ y
-no-seed s l {x} e = ap (λ (z : ℕ). z ⊕ x) (List·getD-eq-default (part s 0 0) 0 {n = l} (simp length-take (omega arith))) ∙ zero-⊕ x ∙ e
 
 pub whole-line : {m r : ℕ} → r < m → (r + 0) % m ≡ r
 whole-line {m} {r} h = let e : r + 0 ≡ r = omega arith in ap (λ (x : ℕ). x % m) e ∙ mod-eq-of-lt h

@@ -1,4 +1,4 @@
--- The numbers C1 to C11. Each claim has a test, the tests of all the claims are computed at once, and a claim whose test passes is true.
+-- The numbers C1 to C11, and one more. Each claim has a test, the tests of all the claims are computed at once, and a claim whose test passes is true.
 -- Where a claim is about every valid stripe, its test is of the candidates, the only stripes that could be valid.
 --   shape? … unlike?   tests, and their meanings: shape-sound … unlike-sound
 --   test, tests        the test of a claim, and of a list of claims

@@ -26,7 +26,7 @@ use Rattle.parity.specs.Sum.{sum}
 use Rattle.parity.specs.Shape.{columnLength}
 use Rattle.parity.specs.Equations.{Lane, back, S}
 use Rattle.parity.specs.Stripe.{lane, Valid}
-use Rattle.parity.proofs.Xor.{⊕-assoc, ⊕-cancel, zero-⊕, xor}
+use Rattle.parity.proofs.Xor.{⊕-cancel, zero-⊕, xor}
 use Rattle.cells.specs.Runs.{Put}
 use Rattle.cells.proofs.Parts.{part, parts-end}
 use Rattle.lines.specs.declared.Columns.{Columns}
@@ -41,7 +41,7 @@ use Rattle.sums.specs.Sums.{begun, laneOf, windowOf, OneLine, WholeLines}
 use Rattle.sums.proofs.Sweeps.{begun-first, begun-next, onward, over}
 use Rattle.walk.specs.Walk.{Column, Mixed, Parted, Walked}
 use Rattle.restoring.specs.Restoring.{Bench, SameButTwo, OneRestored, TwoRestored}
-use Rattle.restoring.specs.Left.{rowLeft, diagonalLeft, beginRow, BothSummed, BothLeft}
+use Rattle.restoring.specs.Left.{rowLeft, diagonalLeft, beginRow, BothSummed}
 use Rattle.restoring.proofs.Bench.{lent-at, lent-put, lent-lined, first-at, second-at, bench-now, first-set, second-set, first-added, RowsIn, rows-added, one-restored, two-restored}
 use Rattle.restoring.proofs.Lanes.{row-of-one, row-of-both, diagonal-of-both, diagonal-of-one, diagonal-and-d, d-first, d-second, total-S}
 

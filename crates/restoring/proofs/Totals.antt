@@ -1,10 +1,9 @@
 -- A column taken for a row: a stripe of one row, whose columns are the column's cells.
---   row-crosses-all              the numbers of that stripe
 --   two-sum                      the sum of that row is the sum of the cells of two columns, one after the other
 --   both-columns                 the sums of columns H and D, one after the other
 use mathlib.Core.Path.{_≡_, sym, ap, ap₂, _∙_}
 use mathlib.Core.List.{List}
-use Prim.Native.Nat.{ℕ, _+_, _*_, _-_, _/_, _%_, _≤_, _<_}
+use Prim.Native.Nat.{ℕ, _+_, _*_, _-_, _≤_, _<_}
 use native.Mathlib.Omega.{arith}
 use lib.ListN.{getD}
 use Rattle.parity.specs.Xor.{_⊕_}
@@ -13,9 +12,8 @@ use Rattle.parity.specs.Shape.{columnLength}
 use Rattle.parity.specs.Equations.{Lane}
 use Rattle.parity.specs.Stripe.{byte, lane}
 use Rattle.parity.proofs.Sum.{sum-cong, sum-add, sum-join}
-use Rattle.cells.specs.Runs.{Put}
 use Rattle.cells.proofs.Parts.{part, part-at, parts-end}
-use Rattle.lines.specs.Lines.{real, line, span, Sized, Crosses}
+use Rattle.lines.specs.Lines.{real, line, span, Sized}
 use Rattle.lines.proofs.Lines.{real-in, span-line, column-is}
 use Rattle.lines.proofs.Cells.{at-row}
 use Rattle.lines.proofs.Equations.{row-at}
@@ -38,9 +36,6 @@ module _ (b : ℕ) (s : List ℕ) (p q n l : ℕ) (room : n * b ≤ q) (low : l 
       span-line 2 row 0 0 n ∙ sum-cong n (λ i h. ap (λ (r : ℕ). real 2 row r i) (row-at 2 0 i (omega arith)) ∙ real-in 2 row 0 i (omega arith) ∙ cell i h)
 
 module _ {m b c : ℕ} (z : Sized m b c) where
-  pub row-crosses-all : {n q : ℕ} → n ≤ 256 → n * b ≤ q → Crosses 2 b q 0 0 0 n
-  row-crosses-all most room = record { slant = omega arith; inside = omega arith; order = omega arith; within = omega arith; most = most; columns = room }
-
   module _ (s : List ℕ) (t p l : ℕ) (at : p ≡ t * c) (low : l < b) where
     abbrev f : ℕ → ℕ
     f i = getD s (p + (i * b + l)) 0

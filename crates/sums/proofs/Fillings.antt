@@ -2,11 +2,11 @@
 --   filling-part    fewer lanes can be filled too, also in another buffer of the same length
 --   fill-next       after the lanes from x up to j, the next n, whose seeds are as they were
 --   fill-more       the same from the first lane on
-use mathlib.Core.Path.{_≡_, ap, _∙_, subst}
+use mathlib.Core.Path.{_≡_, ap, subst}
 use mathlib.Core.List.{List}
 use Prim.Native.Nat.{ℕ, _+_, _-_, _≤_}
 use native.Mathlib.Omega.{arith}
-use lib.ListN.{length, getD}
+use lib.ListN.{length}
 use Rattle.parity.specs.Xor.{_⊕_}
 use Rattle.cells.specs.Runs.{Put}
 use Rattle.cells.proofs.Puts.{put-next, put-same, put-count}

@@ -24,7 +24,7 @@ use Rattle.parity.specs.Xor.{_⊕_}
 use Rattle.parity.proofs.Xor.{⊕-assoc, zero-⊕}
 use Rattle.cells.specs.Runs.{Put}
 use Rattle.cells.proofs.Parts.{by-order, parts-end}
-use Rattle.cells.proofs.Puts.{put-same, put-again}
+use Rattle.cells.proofs.Puts.{put-same}
 use Rattle.lines.specs.declared.Columns.{Columns}
 use Rattle.lines.specs.declared.Grid.{Grid}
 use Rattle.lines.specs.Lines.{Sized, Laid, Crosses}
@@ -32,7 +32,6 @@ use Rattle.lines.specs.Rows.{Lined, Room}
 use Rattle.lines.proofs.Lines.{span-none, span-more}
 use Rattle.lines.proofs.Places.{window-join}
 use Rattle.lines.proofs.Rows.{lined-more, lined-same, grown-none, grown-both, Grown}
-use Rattle.lines.proofs.Turned.{last-cell}
 use Rattle.sums.specs.Sums.{begun, laneOf, windowOf, spanOf, cellOf}
 
 -- ---- what a cell begins with

@@ -1,7 +1,7 @@
 -- `lines::add_turned` meets its contract: two runs, of which the second is none where the column is turned by at most one row.
 use mathlib.Core.Path.{_≡_, subst}
 use mathlib.Core.List.{List}
-use Prim.Native.Nat.{ℕ, _+_, _*_, _-_}
+use Prim.Native.Nat.{ℕ, _+_, _-_}
 use lib.ListN.{getD}
 use denote.Ref.{now}
 use Rattle.parity.specs.Xor.{_⊕_}

@@ -2,7 +2,6 @@
 use mathlib.Core.Path.{_≡_, sym, refl, ap, _∙_}
 use Prim.Native.Nat.{ℕ, _+_, _*_, _≤_}
 use native.Mathlib.Nat.{mul-le-mul-right}
-use denote.Ref.{now}
 use Rattle.parity.specs.Xor.{_⊕_}
 use Rattle.parity.specs.Equations.{Lane}
 use Rattle.parity.specs.Stripe.{lane}

@@ -1,6 +1,6 @@
 -- `restoring::add_total` meets its contract: the cells are those of a row whose columns are cells.
 use mathlib.Core.Path.{ap, _∙_}
-use Prim.Native.Nat.{ℕ, _+_, _*_}
+use Prim.Native.Nat.{ℕ, _+_}
 use lib.ListN.{length, getD}
 use denote.Ref.{now}
 use Rattle.parity.specs.Xor.{_⊕_}

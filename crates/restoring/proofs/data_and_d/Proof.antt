@@ -10,7 +10,7 @@ use Rattle.lines.proofs.Rows.{lined-same}
 use Rattle.lines.proofs.Turned.{last-cell}
 use Rattle.restoring.specs.Restoring.{Bench}
 use Rattle.restoring.proofs.Bench.{half-whole, lent-lined, lent-at}
-use Rattle.restoring.proofs.Steps.{whole-lines, diagonal-left, last-put, last-bench, data-d}
+use Rattle.restoring.proofs.Steps.{whole-lines, diagonal-left, last-put, data-d}
 use borrow.Author.Needs.{needs}
 use native.Mathlib.Omega.{arith}
 use Rattle.restoring.proofs.data_and_d.Statement.{statement}

@@ -1,7 +1,6 @@
 -- `restoring::put_both` meets its contract. The invariant: both halves are summed over the columns below t.
-use mathlib.Core.Path.{_≡_, _∙_}
+use mathlib.Core.Path.{_∙_}
 use Prim.Native.Nat.{_*_, _-_, _≤_}
-use lib.ListN.{length}
 use denote.Ref.{now}
 use Rattle.parity.specs.Stripe.{lane}
 use Rattle.cells.proofs.Puts.{put-cleared}

@@ -1,7 +1,6 @@
 -- `restoring::put_diagonal` meets its contract: the diagonal is summed from nothing.
-use mathlib.Core.Path.{ap, ap₂, _∙_}
-use Prim.Native.Nat.{_*_, _-_}
-use lib.ListN.{length}
+use mathlib.Core.Path.{ap₂, _∙_}
+use Prim.Native.Nat.{_-_}
 use denote.Ref.{now}
 use Rattle.parity.specs.Xor.{_⊕_}
 use Rattle.parity.proofs.Xor.{zero-⊕}

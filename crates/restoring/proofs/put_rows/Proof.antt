@@ -1,6 +1,6 @@
 -- `restoring::put_rows` meets its contract: each begins with the last cell, which is cleared.
-use mathlib.Core.Path.{_≡_, ap, ap₂, _∙_}
-use Prim.Native.Nat.{ℕ, _+_, _*_, _-_}
+use mathlib.Core.Path.{ap, ap₂, _∙_}
+use Prim.Native.Nat.{ℕ, _*_, _-_}
 use lib.ListN.{length}
 use denote.Ref.{now}
 use Rattle.parity.specs.Xor.{_⊕_}

@@ -4,7 +4,7 @@ use Prim.Native.Nat.{_+_, _*_, _-_}
 use denote.Ref.{now}
 use Rattle.parity.specs.Stripe.{lane}
 use Rattle.cells.proofs.Puts.{put-same}
-use Rattle.lines.proofs.Lines.{column-is, column-most}
+use Rattle.lines.proofs.Lines.{column-is}
 use Rattle.lines.proofs.Turned.{last-cell}
 use Rattle.restoring.proofs.Bench.{half-whole}
 use Rattle.restoring.proofs.Totals.{two-sum, both-columns}

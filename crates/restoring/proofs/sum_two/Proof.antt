@@ -1,5 +1,4 @@
 -- `restoring::sum_two` meets its contract: each half is lent and summed.
-use mathlib.Core.Path.{_∙_}
 use denote.Ref.{now}
 use Rattle.restoring.proofs.Bench.{half-whole, lent-lined}
 use Rattle.restoring.proofs.Steps.{both-summed}

@@ -1,5 +1,5 @@
 -- `sums::lines_by_cells` meets its contract. The invariant: the cells before r have their lines, and i is the line of cell r.
-use mathlib.Core.Path.{_≡_, sym, ap, _∙_, subst}
+use mathlib.Core.Path.{_≡_, sym, ap, _∙_}
 use Prim.Native.Nat.{ℕ, _+_, _*_, _-_, _%_, _≤_}
 use native.Mathlib.Nat.{mod-eq-of-lt}
 use denote.Ref.{now}

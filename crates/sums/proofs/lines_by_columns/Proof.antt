@@ -1,6 +1,6 @@
 -- `sums::lines_by_columns` meets its contract: the first columns after what every cell begins with and the ends, others after what is there.
 use mathlib.Core.Path.{_≡_, sym, ap, ap₂, _∙_, subst}
-use Prim.Native.Nat.{ℕ, _+_, _*_, _-_, _%_, _≤_, _<_}
+use Prim.Native.Nat.{ℕ, _+_, _*_, _-_, _%_}
 use native.Mathlib.Nat.{mod-lt}
 use lib.ListN.{length, getD}
 use denote.Ref.{now}
@@ -14,7 +14,7 @@ use Rattle.lines.proofs.Places.{window-start, window-next}
 use Rattle.lines.proofs.Amounts.{cell-span}
 use Rattle.lines.proofs.Rows.{lined-same, lined-grown}
 use Rattle.lines.proofs.Whole.{row-crosses}
-use Rattle.sums.specs.Sums.{begun, laneOf, windowOf, spanOf, Half}
+use Rattle.sums.specs.Sums.{laneOf, spanOf, Half}
 use Rattle.sums.proofs.Sweeps.{begun-first, begun-next, lines-cross}
 use borrow.Author.Needs.{needs}
 use native.Mathlib.Omega.{arith}

@@ -1,7 +1,6 @@
 -- `sums::sum_line` meets its contract. The invariant: the columns below t are summed.
-use mathlib.Core.Path.{_≡_, sym, ap, subst}
-use mathlib.Core.List.{List}
-use Prim.Native.Nat.{ℕ, _+_, _-_, _≤_}
+use mathlib.Core.Path.{_≡_, sym, subst}
+use Prim.Native.Nat.{_+_, _-_, _≤_}
 use lib.ListN.{length, getD}
 use denote.Ref.{now}
 use Rattle.parity.specs.Xor.{_⊕_}
