@@ -180,8 +180,8 @@ impl Maker {
         requests
     }
 
-    /// A valid stripe restored with one column absent; and, with one byte of the last row wrong in D, a check, a mend
-    /// and the same restore.
+    /// A valid stripe restored with one column absent; with one byte of the last row wrong in D, a check, a mend and
+    /// the same restore; and with one byte of the first row wrong, a check and the restore again.
     fn wide(&mut self, shape: Shape) -> Vec<Request> {
         let Shape { m, k, b } = shape;
         let mut stripe = self.random.bytes(shape.stripe_length());
@@ -189,7 +189,11 @@ impl Maker {
         let sound = self.large_restore(shape, "data", &stripe);
         stripe[shape.column(k + 1)][(m - 2) * b + self.random.below(b)] ^= self.random.nonzero();
         let torn = self.large_restore(shape, "data", &stripe);
-        vec![sound, Request::Check(shape, stripe.clone()), Request::Mend(shape, stripe), torn]
+        let mut first = stripe.clone();
+        encode(shape, &mut first);
+        first[shape.column(k + 1)][self.random.below(b)] ^= self.random.nonzero();
+        let torn_first = self.large_restore(shape, "data", &first);
+        vec![sound, Request::Check(shape, stripe.clone()), Request::Mend(shape, stripe), torn, Request::Check(shape, first), torn_first]
     }
 
     /// An encode, a restore for each kind of absent columns, and, with one byte of the last row wrong in a data

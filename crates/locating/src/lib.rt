@@ -80,15 +80,14 @@ fn broken_lane(room: &mut [u8], s: &[u8], g: Grid) -> usize
     odd_lines(room, s, g, 1)
 }
 
-// The amount that line i breaks by in lane l.
-fn amount(room: &[u8], s: &[u8], g: Grid, slant: usize, i: usize, l: usize) -> u8
-    requires { ⌜ Ready g (now s) (now room) × (slant ≤ 1) × (i < g .m) × (l < g .b) ⌝ }
+// The amount that line i breaks by in lane l. at is room for the places of its cells.
+fn amount(at: &mut [usize], room: &[u8], s: &[u8], g: Grid, slant: usize, i: usize, l: usize) -> u8
+    requires { ⌜ (length (now at) ≡ 128) × Ready g (now s) (now room) × (slant ≤ 1) × (i < g .m) × (l < g .b) ⌝ }
     ensures { λ r. ⌜ r ≡ broken (g .m) (g .k) (lane (g .m) (g .b) (now (s .entry)) l) slant i ⌝ }
 {
     let b = g.b;
     let mut acc = [0u8; 1];
-    let mut at = [0usize; 128];
-    let n = lines::find_line(&mut at, g, slant, i, lines::all_but(g, 129, 129));
+    let n = lines::find_line(at, g, slant, i, lines::all_but(g, 129, 129));
     cells::take(&mut acc, room, (2 - slant) * b + l);
     lines::add_cells(&mut acc, s, &at[0..n], l);
     acc[0]
@@ -99,8 +98,9 @@ fn amounts(w: &mut [u8], room: &[u8], s: &[u8], g: Grid, slant: usize, l: usize)
     requires { ⌜ Ready g (now s) (now room) × (slant ≤ 1) × (length (now w) ≤ g .m) × (l < g .b) ⌝ }
     ensures { λ _. ⌜ Put (now (w .entry)) (now (w .exit)) 0 (length (now (w .entry))) (broken (g .m) (g .k) (lane (g .m) (g .b) (now (s .entry)) l) slant) ⌝ }
 {
+    let mut at = [0usize; 128];
     for i in 0..w.len() {
-        w[i] = amount(room, s, g, slant, i, l);
+        w[i] = amount(&mut at, room, s, g, slant, i, l);
     }
 }
 

@@ -1,4 +1,4 @@
-// Columns of a stripe restored: one or two absent ones to the halves of the bench, a buffer of two columns, or one in its own place. An absent column is
+// Absent columns of a stripe, one or two, restored to the halves of the bench, a buffer of two columns. An absent column is
 // never read: every sum leaves out columns u and v, of which 129, which no stripe has, stands for none; H and D are summed whole only where both are
 // there. A row with H's cell is zero, and a diagonal with D's cell is S: what is left of them is what the absent columns have there. Row m - 1 is
 // imaginary, and zero. While a half is summed, its last cell holds what every cell of it begins with: nothing for rows, S for diagonals.

@@ -7,6 +7,7 @@
 --   rewrote          a column whose cells are the candidate's is rewritten
 --   rewrote-rows     a data column or H, rewritten by the rows, is the candidate
 --   rewrote-diagonals   D, rewritten by the diagonals, is the candidate
+--   rewrote-whole       a column that was restored elsewhere, and copied
 use mathlib.Core.Path.{_≡_, sym, ap, ap₂, _∙_}
 use mathlib.Core.Logic.{_≢_}
 use mathlib.Core.List.{List}
@@ -17,21 +18,25 @@ use lib.ListN.{length, getD, List·getD-eq-default}
 use Rattle.parity.specs.Xor.{_⊕_}
 use Rattle.parity.specs.Shape.{columnLength}
 use Rattle.parity.specs.Equations.{Lane, S, amountH, amountD}
-use Rattle.parity.specs.Stripe.{byte, lane}
+use Rattle.parity.specs.Stripe.{byte, lane, Stripe}
 use Rattle.parity.specs.Candidate.{candidate}
 use Rattle.parity.proofs.Xor.{zero-⊕, xor}
 use Rattle.parity.proofs.Candidate.{candidate-h, candidate-d}
 use Rattle.cells.proofs.Parts.{parts-end, by-order}
 use Rattle.lines.specs.declared.Grid.{Grid}
-use Rattle.lines.specs.Lines.{real, line, span, ended, Laid}
+use Rattle.lines.specs.Lines.{real, line, span, ended, Laid, Sized}
 use Rattle.lines.specs.Places.{without, window}
 use Rattle.lines.specs.Rows.{Lined}
 use Rattle.lines.proofs.Lines.{real-in, span-line, column-is}
 use Rattle.lines.proofs.Places.{window-first}
 use Rattle.lines.proofs.Ended.{ended-but, ended-same, crossing, row-crossing, row-clear, diagonal-end, diagonal-clear}
 use Rattle.lines.proofs.Equations.{H-line, S-line, D-line}
-use Rattle.lines.proofs.Cells.{cell-end}
-use Rattle.rewriting.specs.Rewrite.{told, Rewrote}
+use Rattle.lines.proofs.Cells.{cell-end, at-row}
+use Rattle.rewriting.specs.Rewrite.{told, Rewrote, Fitting}
+use Rattle.parity.proofs.Fits.{rewritten, rewritten-byte, rewritten-other, fits-valid}
+use Rattle.parity.proofs.Shapes.{whole-stripe}
+use Rattle.cells.specs.Runs.{Put}
+use Rattle.restoring.specs.Restoring.{OneRestored}
 
 -- ---- what the lines of a lane have in the columns other than u
 
@@ -139,3 +144,39 @@ module _ {g : Grid} {s : List ℕ} (laid : Laid g s) (u : ℕ) where
       ap₂ _⊕_ (so l hl ∙ ap₂ _⊕_ (past w none l end) (line-at (m - 1)) ∙ zero-⊕ (line m a 1 (m - 1) k) ∙ sym (S-line m k (laid .few) a (laid .sized .big))) (line-at i)
       ∙ D-told m k few-columns (laid .few) a i (laid .sized .big)
       ∙ ap (λ (y : ℕ). candidate m k a y i y) (sym e))
+
+-- ---- a column restored elsewhere, and copied
+
+pub rewrote-whole : {g : Grid} {s w v o : List ℕ} {u : ℕ} → Fitting g s u → ((x : ℕ) → getD s x 0 < 256) → OneRestored (g .m) (g .k) (g .b) u s w v
+    → Put s o (u * g .column) (g .column) (λ l. getD v (0 + l) 0) → Rewrote (g .m) (g .k) (g .b) u s o
+rewrote-whole {g} {s} {w} {v} {o} {u} p bytes r q = record {
+  size = q .size;
+  inside = λ l i hl hi.
+      at-row z o u l i
+      ∙ q .inside (i * b + l) (omega (arith, column-is m b (g .column) z, parts-end b hi))
+      ∙ (let e : 0 + (i * b + l) ≡ 0 * g .column + (i * b + l) = omega arith in ap (λ (x : ℕ). getD v x 0) e)
+      ∙ sym (at-row z v 0 l i)
+      ∙ r .first (rewritten m k b u s) (fits-valid m k b u s stripe (p .fits)) (rewritten-other m k b u s) l i hl hi
+      ∙ rewritten-byte m k b u s l i u hl hi (p .inside);
+  other = λ l i y hl hi hy ne.
+      at-row z o y l i
+      ∙ by-order (getD o (y * g .column + (i * b + l)) 0 ≡ getD s (y * g .column + (i * b + l)) 0) y u
+      (λ low. q .before _ (omega (arith, column-is m b (g .column) z, parts-end b hi, parts-end (g .column) low)))
+      (λ high. let h : u < y = omega (arith, ne) in q .after _ (omega (arith, parts-end (g .column) h)))
+      ∙ sym (at-row z s y l i);
+}
+  where
+    m : ℕ
+    m = g .m
+
+    k : ℕ
+    k = g .k
+
+    b : ℕ
+    b = g .b
+
+    z : Sized m b (g .column)
+    z = p .laid .sized
+
+    stripe : Stripe m k b s
+    stripe = record { whole = p .laid .whole ∙ whole-stripe m k b (z .column); bytes = bytes }

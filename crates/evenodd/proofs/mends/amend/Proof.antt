@@ -27,7 +27,7 @@ rewrite-requires c κs =
     let a = z .args in
     let p = z .pre in
     let found = subst (Located (a .g .m) (a .g .k) (a .g .b) (now (a .stripe))) (c .before .before .u .given .1) (c .before .before .before .before .locate .ensures) in
-    (laid (p .shape) (p .column) (p .stripe), found .1)
+    record { laid = laid (p .shape) (p .column) (p .stripe); inside = found .1; fits = found .2 }
 
 same-length : tie.Need-same-length
 same-length c = search needs
