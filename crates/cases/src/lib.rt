@@ -25,7 +25,7 @@ pub fn five() -> Map
 }
 
 // The sum S, which is the sum of all cells of H and of D.
-fn sum_line(out: &mut [u8], at: usize, h0: u8, h1: u8, d0: u8, d1: u8) -> usize
+fn s_line(out: &mut [u8], at: usize, h0: u8, h1: u8, d0: u8, d1: u8) -> usize
     ensures { λ r. ⌜ (at ≤ r) × (r ≤ at + 206) ⌝ }
 {
     let first = say_word(out, at, b"C1 S");
@@ -40,7 +40,7 @@ pub fn encodings(out: &mut [u8], at: usize) -> usize
 {
     let mut c1 = [1u8, 2, 4, 8, 16, 32, 0, 0, 0, 0];
     let first = encode_line(out, at, b"C1", 3, 3, 1, &mut c1);
-    let second = sum_line(out, first, c1[6], c1[7], c1[8], c1[9]);
+    let second = s_line(out, first, c1[6], c1[7], c1[8], c1[9]);
     let mut c2 = [1u8, 2, 0, 0, 0, 0];
     let third = encode_line(out, second, b"C2", 3, 1, 1, &mut c2);
     let mut c3 = [

@@ -56,19 +56,19 @@ module _ (m k : ℕ) (big : 1 < m) (few : k ≤ m) (a : Lane) where
 
 module _ (m k b : ℕ) (big : 1 < m) (few : k ≤ m) (s : List ℕ) (u : ℕ) where
   -- how many of the lines that leave column u out differ from line m - 1
-  abbrev differing : ℕ → ℕ
-  differing u = breaking (m - 1) b (λ l i. rest m k big few (lane m b s l) u i)
+  abbrev differingLines : ℕ → ℕ
+  differingLines u = breaking (m - 1) b (λ l i. rest m k big few (lane m b s l) u i)
 
-  all-zero : (u : ℕ) {n : ℕ} → n ≡ differing u → n ≡ 0 → (l : ℕ) → l < b → (i : ℕ) → i < m - 1 → rest m k big few (lane m b s l) u i ≡ 0
+  all-zero : (u : ℕ) {n : ℕ} → n ≡ differingLines u → n ≡ 0 → (l : ℕ) → l < b → (i : ℕ) → i < m - 1 → rest m k big few (lane m b s l) u i ≡ 0
   all-zero u e z l hl i hi = breaking-zero b _ (m - 1) (sym e ∙ z) i l hi hl
 
-  pub fits-one : {n : ℕ} → u < k + 2 → n ≡ differing u → (eqb n 0 ≡ true) ↔ FitsBut m k b u s
+  pub fits-one : {n : ℕ} → u < k + 2 → n ≡ differingLines u → (eqb n 0 ≡ true) ↔ FitsBut m k b u s
   fits-one {n} h e = (
     λ z l hl. rest-holds m k big few (lane m b s l) u h (all-zero u e (eqb-true n 0 z) l hl),
     λ f. eq-eqb n 0 (e ∙ zero-breaking b _ (m - 1) (λ i l hi hl. holds-rest m k big few (lane m b s l) u h (f l hl) i hi)),
   )
 
-  module _ (h : k + 2 ≤ u) {d : ℕ} (diagonals : d ≡ differing k) where
+  module _ (h : k + 2 ≤ u) {d : ℕ} (diagonals : d ≡ differingLines k) where
     no-diagonal : FitsBut m k b u s → d ≡ 0
     no-diagonal f = diagonals ∙ zero-breaking b _ (m - 1) (λ i l hi hl.
         rest-H m k big few (lane m b s l) i hi ∙ hold-d m k (lane m b s l) (holds-none m k big few (lane m b s l) u h (f l hl)) i hi)
@@ -76,7 +76,7 @@ module _ (m k b : ℕ) (big : 1 < m) (few : k ≤ m) (s : List ℕ) (u : ℕ) wh
     pub breaks-none : (d ≡ 0 → ⊥) → (false ≡ true) ↔ FitsBut m k b u s
     breaks-none ne = (λ e. absurd (false≢true e), λ f. absurd (ne (no-diagonal f)))
 
-    pub fits-none : {n : ℕ} → d ≡ 0 → n ≡ differing (k + 1) → (eqb n 0 ≡ true) ↔ FitsBut m k b u s
+    pub fits-none : {n : ℕ} → d ≡ 0 → n ≡ differingLines (k + 1) → (eqb n 0 ≡ true) ↔ FitsBut m k b u s
     fits-none {n} z e = (
       λ x l hl. none-holds m k big few (lane m b s l) u h (all-zero k diagonals z l hl) (all-zero (k + 1) e (eqb-true n 0 x) l hl),
       λ f. eq-eqb n 0 (e ∙ zero-breaking b _ (m - 1) (λ i l hi hl.

@@ -1,13 +1,13 @@
 -- What is counted, and what the loops that count ask for.
---   breaking n b f         how many lines i below n have a lane l below b at which f l i is not zero
---   testLine g s u d l     lane l of line d of those that leave column u out
---   differing g s u x      how many of those lines, but line m - 1, differ from the cell x; breaks g s u: from line m - 1
---   columnsOf, pieceOf     the columns of a piece of a line, and what its cells add up to at lane l
---   below p r              that piece of the line which is r lines further
---   Finding g p            the piece can be followed
---   Seed x b               a cell of b bytes, or an empty one, which stands for zero
---   Column …               room for a column of a stripe, and for the places of a line's cells
---   Band …                 room for n lines from `first` on, for a cell after them at `seed`, and for the places of a group's cells
+--   breaking n b f            how many lines i below n have a lane l below b at which f l i is not zero
+--   testLine g s u d l        lane l of line d of those that leave column u out
+--   differingLines g s u x    how many of those lines, but line m - 1, differ from the cell x; breaks g s u: from line m - 1
+--   columnsOf, pieceOf        the columns of a piece of a line, and what its cells add up to at lane l
+--   below p r                 that piece of the line which is r lines further
+--   Finding g p               the piece can be followed
+--   Seed x b                  a cell of b bytes, or an empty one, which stands for zero
+--   ColumnRoom …              room for a column of a stripe, and for the places of a line's cells
+--   Band …                    room for n lines from `first` on, for a cell after them at `seed`, and for the places of a group's cells
 use mathlib.Core.Path.{_≡_}
 use mathlib.Core.Bool.{not}
 use mathlib.Core.List.{List}
@@ -29,11 +29,11 @@ breaking n b f = count n (λ i. some b (λ l. not (eqb (f l i) 0)))
 abbrev pub testLine : Grid → List ℕ → ℕ → ℕ → ℕ → ℕ
 testLine g s u d l = lineBut (g .m) (g .k) (lane (g .m) (g .b) s l) u d
 
-abbrev pub differing : Grid → List ℕ → ℕ → (ℕ → ℕ) → ℕ
-differing g s u x = breaking (g .m - 1) (g .b) (λ l d. x l ⊕ testLine g s u d l)
+abbrev pub differingLines : Grid → List ℕ → ℕ → (ℕ → ℕ) → ℕ
+differingLines g s u x = breaking (g .m - 1) (g .b) (λ l d. x l ⊕ testLine g s u d l)
 
 abbrev pub breaks : Grid → List ℕ → ℕ → ℕ
-breaks g s u = differing g s u (testLine g s u (g .m - 1))
+breaks g s u = differingLines g s u (testLine g s u (g .m - 1))
 
 abbrev pub columnsOf : Piece → Columns
 columnsOf p = record { from = p .from; to = p .to; u = p .u; v = p .u }
@@ -54,7 +54,7 @@ pub record Finding (g : Grid) (p : Piece) : Type 0 where
 abbrev pub Seed : List ℕ → ℕ → Type 0
 Seed x b = 0 < length x → b ≤ length x
 
-pub record Column (g : Grid) (s : List ℕ) (at w : ℕ) : Type 0 where
+pub record ColumnRoom (g : Grid) (s : List ℕ) (at w : ℕ) : Type 0 where
   pub laid : Laid g s
   pub places : 2 + 2 * g .k ≤ at
   pub whole : w ≡ g .column

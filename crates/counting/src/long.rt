@@ -15,7 +15,7 @@ ghost use Rattle.lines.specs.Lines.{Laid};
 ghost use Rattle.lines.specs.Places.{total, Within};
 ghost use Rattle.lines.specs.Rows.{Lined, Room};
 ghost use Rattle.sums.specs.Sums.{begun};
-ghost use Rattle.counting.specs.Counting.{testLine, differing, breaks, columnsOf, pieceOf, below, Finding, Seed, Band};
+ghost use Rattle.counting.specs.Counting.{testLine, differingLines, breaks, columnsOf, pieceOf, below, Finding, Seed, Band};
 ghost use Rattle.counting.specs.Gather.{Gathered};
 
 // Ors the eight parts of 16 bytes that acc has into o: all of o is zero then exactly when o was and acc is.
@@ -82,7 +82,7 @@ fn fold_line(at: &mut [usize], seed: &[u8], s: &[u8], g: Grid, u: usize, d: usiz
 // How many of lines 0 to m - 2 differ from the cell seed.
 fn count_folded(at: &mut [usize], seed: &[u8], s: &[u8], g: Grid, u: usize) -> usize
     requires { ⌜ (128 ≤ g .b) × (2 + 2 * g .k ≤ length (now at)) × Seed (now seed) (g .b) × Laid g (now s) ⌝ }
-    ensures { λ r. ⌜ r ≡ differing g (now (s .entry)) u (λ l. getD (now (seed .entry)) l 0) ⌝ }
+    ensures { λ r. ⌜ r ≡ differingLines g (now (s .entry)) u (λ l. getD (now (seed .entry)) l 0) ⌝ }
 {
     let mut n: usize = 0;
     for d in 0..g.m - 1 {
@@ -214,7 +214,7 @@ fn fewer(x: usize, y: usize) -> usize
 // How many of lines 0 to m - 2 differ from the cell of w at `seed`, in bands of as many lines as have room before it.
 fn count_bands(at: &mut [usize], w: &mut [u8], seed: usize, s: &[u8], g: Grid, u: usize) -> usize
     requires { ⌜ Band g (now s) (length (now at)) (length (now w)) seed 0 1 ⌝ }
-    ensures { λ c. ⌜ c ≡ differing g (now (s .entry)) u (λ l. getD (now (w .entry)) (seed + l) 0) ⌝ }
+    ensures { λ c. ⌜ c ≡ differingLines g (now (s .entry)) u (λ l. getD (now (w .entry)) (seed + l) 0) ⌝ }
 {
     let b = g.b;
     let last = g.m - 1;

@@ -9,11 +9,11 @@ ghost use lib.ListN.{length, getD};
 ghost use Rattle.parity.specs.Xor.{_⊕_};
 ghost use Rattle.lines.specs.Lines.{Laid};
 ghost use Rattle.lines.specs.Rows.{Lined};
-ghost use Rattle.counting.specs.Counting.{testLine, breaks, Column};
+ghost use Rattle.counting.specs.Counting.{testLine, breaks, ColumnRoom};
 
 // Every cell of the column w becomes line m - 1. Of the rows that line is imaginary, and zero.
 fn start_lines(at: &mut [usize], w: &mut [u8], s: &[u8], g: Grid, u: usize)
-    requires { ⌜ Column g (now s) (length (now at)) (length (now w)) ⌝ }
+    requires { ⌜ ColumnRoom g (now s) (length (now at)) (length (now w)) ⌝ }
     ensures { λ _. ⌜ Lined (g .m - 1) (g .b) 0 (now (w .entry)) (now (w .exit)) (λ r l. testLine g (now (s .entry)) u (g .m - 1) l) ⌝ }
 {
     if g.k < u {
@@ -65,7 +65,7 @@ fn add_lines(w: &mut [u8], s: &[u8], g: Grid, u: usize)
 
 // How many of lines 0 to m - 2 differ from line m - 1. w is room for a column.
 fn count_columns(at: &mut [usize], w: &mut [u8], s: &[u8], g: Grid, u: usize) -> usize
-    requires { ⌜ Column g (now s) (length (now at)) (length (now w)) ⌝ }
+    requires { ⌜ ColumnRoom g (now s) (length (now at)) (length (now w)) ⌝ }
     ensures { λ r. ⌜ r ≡ breaks g (now (s .entry)) u ⌝ }
 {
     let b = g.b;

@@ -146,7 +146,7 @@ fn put_row(s: &mut [u8], g: Grid, t0: usize, t1: usize, i: usize)
 }
 
 // Every row of H and D gets these columns added.
-fn put_rows(s: &mut [u8], g: Grid, t0: usize, t1: usize)
+fn put_group(s: &mut [u8], g: Grid, t0: usize, t1: usize)
     requires { ⌜ Group g t0 t1 (now s) ⌝ }
     ensures { λ _. ⌜ Grown (eqb t0 0) g t0 t1 (now (s .entry)) (now (s .exit)) 0 (g .m - 1) ⌝ }
 {
@@ -163,7 +163,7 @@ fn put_groups(s: &mut [u8], g: Grid)
     let mut t: usize = 0;
     while t < g.k {
         let e = lines::group_end(t, g.k);
-        put_rows(s, g, t, e);
+        put_group(s, g, t, e);
         t = e;
     }
 }
@@ -184,7 +184,7 @@ fn put_sum(s: &mut [u8], g: Grid)
 }
 
 // H gets column t added, D the same turned by t rows.
-fn add_column(s: &mut [u8], g: Grid, t: usize)
+fn put_column(s: &mut [u8], g: Grid, t: usize)
     requires { ⌜ Laid g (now s) × (t < g .k) ⌝ }
     ensures { λ _. ⌜ Grown false g t (t + 1) (now (s .entry)) (now (s .exit)) 0 (g .m - 1) ⌝ }
 {
@@ -204,7 +204,7 @@ fn put_columns(s: &mut [u8], g: Grid)
     cells::zero(&mut s[h..last_place(g)]);
     lines::spread(s, h + c, g);
     for t in 0..g.k {
-        add_column(s, g, t);
+        put_column(s, g, t);
     }
 }
 

@@ -9,10 +9,10 @@ use Rattle.counting.specs.declared.Counts.{Counts}
 use Rattle.evenodd.specs.declared.checks.Checked.{Checked}
 use Rattle.inputs.specs.Refusals.{pass, Gives}
 use Rattle.inputs.specs.Rules.{stripeRules}
-use Rattle.evenodd.specs.Checks.{Checks, Says}
+use Rattle.evenodd.specs.Checks.{Checks, CountsSay}
 
 module _ (m k b : ℕ) (s : List ℕ) (passed : Gives (stripeRules m k b (length s)) pass) (c : Counts) (rows : c .rows ≡ brokenRows m k b s) (diagonals : c .diagonals ≡ brokenDiagonals m k b s) where
-  pub says-checks : (r : Checked) → Says c r → Checks m k b s r
+  pub says-checks : (r : Checked) → CountsSay c r → Checks m k b s r
   says-checks r t = record {
     told = rw (t .passed) passed;
     counted = λ _. record {

@@ -24,7 +24,7 @@ use Rattle.parity.proofs.Theorems.{exactly-one}
 use Rattle.inputs.specs.declared.maps.Gaps.{Gaps}
 use Rattle.inputs.specs.Absent.{absentBelow, NthAbsent, Counts}
 use Rattle.inputs.proofs.Absent.{absences-below, below-under, others-present}
-use Rattle.evenodd.specs.Fills.{Gapped, Filled, Fills}
+use Rattle.evenodd.specs.Fills.{Gapped, GapsFilled, FillsGaps}
 use Rattle.inputs.specs.declared.maps.Map.{Map}
 use Rattle.evenodd.specs.declared.restores.Restored.the-variants.{Refused}
 use Rattle.inputs.specs.declared.lent.Given.{Given}
@@ -156,7 +156,7 @@ module _ (m k b : ℕ) (map : Map) (s before : List ℕ) where
     }
 
     module _ (st : Stripe m k b s) (after : List ℕ) where
-      from-filled : Filled m k b gaps s before after → RestoredFrom m k b (map .places) s before after (gaps .count) (gaps .first) (gaps .second)
+      from-filled : GapsFilled m k b gaps s before after → RestoredFrom m k b (map .places) s before after (gaps .count) (gaps .first) (gaps .second)
       from-filled f = by-count (ℕ-discrete (gaps .count) 2) (ℕ-discrete (gaps .count) 1)
         where
           by-count : Dec (gaps .count ≡ 2) → Dec (gaps .count ≡ 1) → RestoredFrom m k b (map .places) s before after (gaps .count) (gaps .first) (gaps .second)
@@ -169,7 +169,7 @@ module _ (m k b : ℕ) (map : Map) (s before : List ℕ) where
               let z : gaps .count ≡ 0 = by-cases (decLt 0 (gaps .count)) (λ l. absurd (by-cases (decLt 1 (gaps .count)) (λ c. n (omega arith)) (λ c. o (omega arith)))) (λ l. omega arith) in
               rw (f .none z) (restored-none m k b shape (map .places) s st (gaps .count) (gaps .first) (gaps .second) (counts .count) (counts .first) (counts .second) z (f .fits (omega arith)) before)
 
-      pub restore-told : (filled : Bool) → Fills m k b gaps s before after filled → Restores m k b map s before after (restoredBy gaps filled)
+      pub restore-told : (filled : Bool) → FillsGaps m k b gaps s before after filled → Restores m k b map s before after (restoredBy gaps filled)
       restore-told true f =
           let r = from-filled f in
           record { told = rules (gives-next (λ c. c (r .stripe) (r .valid) (r .agrees)) refl); restored = λ _. r; kept = λ g p. absurd (passes-not g p) }

@@ -1,8 +1,8 @@
 -- What check answers. It reads only.
 --   verdictOf, rowsOf, diagonalsOf   the verdict of an answer, and its two counts: 0 where it is refused
---   Counted   the counts are those of the rows and of the numbers whose equation breaks, and the stripe is called intact exactly when it is
---   Checks    refused: 1, 2; passed: `Counted`
---   Says      what an answer says of two counts
+--   Counted    the counts are those of the rows and of the numbers whose equation breaks, and the stripe is called intact exactly when it is
+--   Checks     refused: 1, 2; passed: `Counted`
+--   CountsSay  what an answer says of two counts
 use mathlib.Core.Path.{_≡_}
 use mathlib.Core.Logic.{_↔_}
 use mathlib.Core.List.{List}
@@ -39,7 +39,7 @@ pub record Checks (m k b : ℕ) (s : List ℕ) (r : Checked) : Type 0 where
   pub told : Gives (stripeRules m k b (length s)) (verdictOf r)
   pub counted : verdictOf r ≡ pass → Counted m k b s r
 
-pub record Says (c : Counts) (r : Checked) : Type 0 where
+pub record CountsSay (c : Counts) (r : Checked) : Type 0 where
   pub passed : verdictOf r ≡ pass
   pub rows : rowsOf r ≡ c .rows
   pub diagonals : diagonalsOf r ≡ c .diagonals

@@ -1,7 +1,7 @@
 -- What restore does once the numbers, lengths and map are right, and at most two columns are absent.
---   Gapped     all that is known then, with the absent columns' numbers
---   Filled     the columns that are present fit, where they can be tested, and the absent ones were restored to the bench
---   Fills      that; or, the columns that are present do not fit and nothing was written
+--   Gapped       all that is known then, with the absent columns' numbers
+--   GapsFilled   the columns that are present fit, where they can be tested, and the absent ones were restored to the bench
+--   FillsGaps    that; or, the columns that are present do not fit and nothing was written
 use mathlib.Core.Path.{_≡_}
 use mathlib.Core.Bool.{Bool, true, false}
 use mathlib.Core.List.{List}
@@ -22,12 +22,12 @@ pub record Gapped (g : Grid) (gaps : Gaps) (s bench : List ℕ) : Type 0 where
   pub one : gaps .count ≡ 1 → gaps .first < g .k + 2
   pub two : gaps .count ≡ 2 → (gaps .first < gaps .second) × (gaps .second < g .k + 2)
 
-pub record Filled (m k b : ℕ) (gaps : Gaps) (s before after : List ℕ) : Type 0 where
+pub record GapsFilled (m k b : ℕ) (gaps : Gaps) (s before after : List ℕ) : Type 0 where
   pub fits : gaps .count ≤ 1 → FitsBut m k b (gaps .first) s
   pub none : gaps .count ≡ 0 → after ≡ before
   pub one : gaps .count ≡ 1 → OneRestored m k b (gaps .first) s before after
   pub two : gaps .count ≡ 2 → TwoRestored m k b (gaps .first) (gaps .second) s before after
 
-abbrev pub Fills : ℕ → ℕ → ℕ → Gaps → List ℕ → List ℕ → List ℕ → Bool → Type 0
-Fills m k b gaps s before after true = Filled m k b gaps s before after
-Fills m k b gaps s before after false = (gaps .count ≤ 1) × (FitsBut m k b (gaps .first) s → ⊥) × (after ≡ before)
+abbrev pub FillsGaps : ℕ → ℕ → ℕ → Gaps → List ℕ → List ℕ → List ℕ → Bool → Type 0
+FillsGaps m k b gaps s before after true = GapsFilled m k b gaps s before after
+FillsGaps m k b gaps s before after false = (gaps .count ≤ 1) × (FitsBut m k b (gaps .first) s → ⊥) × (after ≡ before)

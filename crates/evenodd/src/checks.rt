@@ -4,7 +4,7 @@ use inputs::Judged;
 use inputs::Refusal;
 use inputs::judge_stripe;
 use lines::Grid;
-ghost use Rattle.evenodd.specs.Checks.{Checks, Says};
+ghost use Rattle.evenodd.specs.Checks.{Checks, CountsSay};
 
 // What check answers: the stripe is intact, or so many rows and diagonals break.
 pub enum Checked {
@@ -15,7 +15,7 @@ pub enum Checked {
 
 // What the two counts say.
 fn told(counts: Counts) -> Checked
-    ensures { λ r. ⌜ Says counts r ⌝ }
+    ensures { λ r. ⌜ CountsSay counts r ⌝ }
 {
     let rows = counts.rows;
     let diagonals = counts.diagonals;

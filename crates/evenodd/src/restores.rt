@@ -6,7 +6,7 @@ use inputs::Refusal;
 use inputs::judge_gaps;
 use lines::Grid;
 ghost use mathlib.Core.Path.{_≡_};
-ghost use Rattle.evenodd.specs.Fills.{Gapped, Fills};
+ghost use Rattle.evenodd.specs.Fills.{Gapped, FillsGaps};
 ghost use Rattle.evenodd.specs.Restores.{Restores, restoredBy};
 
 // What restore answers: how many columns it restored and their numbers, 129 standing for none; or why not.
@@ -37,7 +37,7 @@ fn told(gaps: Gaps, filled: bool) -> Restored
 // answer. A number that is no column's, which stands for none, leaves no column out of the test.
 fn fill_gaps(gaps: Gaps, g: Grid, stripe: &[u8], bench: &mut [u8]) -> bool
     requires { ⌜ Gapped g gaps (now stripe) (now bench) ⌝ }
-    ensures { λ r. ⌜ Fills (g .m) (g .k) (g .b) gaps (now (stripe .entry)) (now (bench .entry)) (now (bench .exit)) r ⌝ }
+    ensures { λ r. ⌜ FillsGaps (g .m) (g .k) (g .b) gaps (now (stripe .entry)) (now (bench .entry)) (now (bench .exit)) r ⌝ }
 {
     let count = gaps.count;
     let first = gaps.first;

@@ -20,7 +20,7 @@ use Rattle.inputs.specs.Maps.{New, Marks}
 use Rattle.image.specs.declared.table.Table.{Table}
 use Rattle.image.specs.declared.table.State.the-variants.{Present, Absent, Wrong}
 use Rattle.image.specs.Reads.{number2}
-use Rattle.image.specs.Entries.{number4, entryAt, saysPresent, RightEntry, StateOf, bodyAt, RightEntries, Reached, Walked}
+use Rattle.image.specs.Entries.{number4, entryAt, saysPresent, RightEntry, StateOf, bodyAt, RightEntries, Reached, WalkedContents}
 
 module _ (image : List ℕ) (t next : ℕ) where
   -- the state byte is 1
@@ -64,7 +64,7 @@ module _ (image : List ℕ) (start column : ℕ) where
   unfolding bodyAt count
   body-absent t e = rw (add-one, e)
 
-  pub walked-none : (map : Map) → New map → Walked image start column 0 (record { right = true; map = map; next = start })
+  pub walked-none : (map : Map) → New map → WalkedContents image start column 0 (record { right = true; map = map; next = start })
   walked-none map n = record {
     most = omega arith;
     right = λ _. record {
@@ -77,7 +77,7 @@ module _ (image : List ℕ) (start column : ℕ) where
     wrong = λ e. absurd (true≢false e);
   }
 
-  module _ (t : ℕ) (w : Table) (walked : Walked image start column t w) where
+  module _ (t : ℕ) (w : Table) (walked : WalkedContents image start column t w) where
     most-more : w .next + column ≤ start + (t + 1) * column
     most-more = let x = walked .most in rw (add-one, suc-mul) (omega arith)
 
@@ -91,7 +91,7 @@ module _ (image : List ℕ) (start column : ℕ) where
     }
 
     pub walked-present : (map : Map) → t < 129 → StateOf image t (w .next) Present → Marks true (w .map) t map
-        → Walked image start column (t + 1) (record { right = w .right; map = map; next = w .next + column })
+        → WalkedContents image start column (t + 1) (record { right = w .right; map = map; next = w .next + column })
     walked-present map h s marks = record {
       most = most-more;
       right = λ e. let r = walked .right e in record {
@@ -106,7 +106,7 @@ module _ (image : List ℕ) (start column : ℕ) where
       wrong = wrong-before;
     }
 
-    pub walked-absent : StateOf image t (w .next) Absent → Walked image start column (t + 1) w
+    pub walked-absent : StateOf image t (w .next) Absent → WalkedContents image start column (t + 1) w
     walked-absent s = record {
       most = let x = most-more in omega arith;
       right = λ e. let r = walked .right e in record {
@@ -119,7 +119,7 @@ module _ (image : List ℕ) (start column : ℕ) where
       wrong = wrong-before;
     }
 
-    pub walked-wrong : (map : Map) → StateOf image t (w .next) Wrong → Walked image start column (t + 1) (record { right = false; map = map; next = w .next })
+    pub walked-wrong : (map : Map) → StateOf image t (w .next) Wrong → WalkedContents image start column (t + 1) (record { right = false; map = map; next = w .next })
     walked-wrong map s = record {
       most = let x = most-more in omega arith;
       right = λ e. absurd (false≢true e);

@@ -28,7 +28,7 @@ use Rattle.image.specs.declared.answers.Contents.{Contents}
 use Rattle.image.specs.declared.table.Table.{Table}
 use Rattle.image.specs.Format.{bodiesAt, WellFormed}
 use Rattle.image.specs.Reads.{number2, malformed, contentsRules, ContentsOf}
-use Rattle.image.specs.Entries.{bodyAt, Walked}
+use Rattle.image.specs.Entries.{bodyAt, WalkedContents}
 use Rattle.image.proofs.Digits.{Bytes}
 use Rattle.image.proofs.Formed.{formed-right, right-formed}
 
@@ -71,7 +71,7 @@ module _ {image : List ℕ} {m k b : ℕ} (h : Header image m k b) where
     unfolding bodyAt
     ill-short l map w = let r = formed-right shape map image w in let e = r .size in omega arith
 
-    module _ {c : ℕ} (q : c ≡ columnLength m b) {w : Table} (walked : Walked image (bodiesAt k) c (k + 2) w) where
+    module _ {c : ℕ} (q : c ≡ columnLength m b) {w : Table} (walked : WalkedContents image (bodiesAt k) c (k + 2) w) where
       pub ill-entry : w .right ≡ false → malformed m k b image .condition
       ill-entry e map f = walked .wrong e (rw q (formed-right shape map image f .entries))
 

@@ -7,7 +7,7 @@
 --   bodyAt image start column t    where the next body begins after those of the columns below t
 --   RightEntries                   entries 0 to n - 1 are as they must be
 --   StateOf image t next r         what is found at entry t
---   Reached, Walked                what is known of the contents after n entries
+--   Reached, WalkedContents        what is known of the contents after n entries
 --   Bodies                         the bodies of the present columns below n lie within the image
 --   copiedByte                     a byte of the stripe after the copying: the body's where the column is present, else the one that was there
 --   CopiedBelow                    the columns below n are copied, and what comes after them stays
@@ -65,7 +65,7 @@ pub record Reached (image : List ℕ) (start column n : ℕ) (w : Table) : Type 
   pub below : (t : ℕ) → t < n → present (w .map .places) t ≡ saysPresent image t
   pub clear : (t : ℕ) → n ≤ t → present (w .map .places) t ≡ false
 
-pub record Walked (image : List ℕ) (start column n : ℕ) (w : Table) : Type 0 where
+pub record WalkedContents (image : List ℕ) (start column n : ℕ) (w : Table) : Type 0 where
   pub most : w .next ≤ start + n * column
   pub right : w .right ≡ true → Reached image start column n w
   pub wrong : w .right ≡ false → RightEntries image start column n → ⊥

@@ -4,7 +4,7 @@ use crate::numbers::two;
 use evenodd::Map;
 ghost use Prim.Native.Nat.{ℕ, _+_, _*_, _≤_, _<_};
 ghost use lib.ListN.{length};
-ghost use Rattle.image.specs.Entries.{entryAt, StateOf, Walked};
+ghost use Rattle.image.specs.Entries.{entryAt, StateOf, WalkedContents};
 
 // What an entry says of its column.
 enum State {
@@ -52,7 +52,7 @@ impl Table {
     // What was known, and then entry t.
     fn entered(self, image: &[u8], t: usize, column: usize) -> Self
         requires { ⌜ (entryAt (t + 1) ≤ length (now image)) × (t < 129) × (self .next + column < 4294967296) ⌝ }
-        ensures { λ r. ⌜ ((start : ℕ) → Walked (now (image .entry)) start column t self → Walked (now (image .entry)) start column (t + 1) r) ⌝ }
+        ensures { λ r. ⌜ ((start : ℕ) → WalkedContents (now (image .entry)) start column t self → WalkedContents (now (image .entry)) start column (t + 1) r) ⌝ }
     {
         let right = self.right;
         let map = self.map;
@@ -75,7 +75,7 @@ impl Table {
     // What the entries of so many columns say, where a column has so many bytes.
     pub(crate) fn of(image: &[u8], columns: usize, column: usize) -> Self
         requires { ⌜ (entryAt columns ≤ length (now image)) × (columns ≤ 129) × (column ≤ 516096) ⌝ }
-        ensures { λ r. ⌜ Walked (now (image .entry)) (entryAt columns) column columns r ⌝ }
+        ensures { λ r. ⌜ WalkedContents (now (image .entry)) (entryAt columns) column columns r ⌝ }
     {
         let map = Map::new();
         let mut table = Self {

@@ -22,13 +22,13 @@ use Rattle.parity.proofs.Theorems.{prime-served}
 use Rattle.cells.specs.Runs.{Put}
 use Rattle.cells.proofs.Puts.{put-start}
 use Rattle.lines.proofs.Lines.{back-lt}
-use Rattle.locating.specs.Locating.{Suspects, broken, Turned, Fit, Blames}
+use Rattle.locating.specs.Locating.{Suspects, broken, TurnedAmounts, Fit, Blames}
 use Rattle.locating.specs.declared.Suspect.{Suspect}
 use Rattle.locating.specs.declared.Suspect.the-variants.{Nothing, Column, Nobody}
 use Rattle.locating.proofs.Lanes.{broken-row, broken-diagonal}
 
 module _ (m k : ℕ) (h d : ℕ → ℕ) where
-  pub fit-data : (u : ℕ) → u < k → Turned m h d u → Fit m k h d u
+  pub fit-data : (u : ℕ) → u < k → TurnedAmounts m h d u → Fit m k h d u
   fit-data u l so = record { datum = λ _. so; rows = λ e. absurd (omega arith); diagonals = λ e. absurd (omega arith) }
 
   pub fit-h : ((i : ℕ) → i < m - 1 → d i ≡ 0) → Fit m k h d k
@@ -37,7 +37,7 @@ module _ (m k : ℕ) (h d : ℕ → ℕ) where
   pub fit-d : ((i : ℕ) → i < m - 1 → h i ≡ 0) → Fit m k h d (k + 1)
   fit-d so = record { datum = λ l. absurd (omega arith); rows = λ e. absurd (omega arith); diagonals = λ _. so }
 
-  pub fit-none : ((x : ℕ) → x < k → Turned m h d x → ⊥) → (((i : ℕ) → i < m - 1 → d i ≡ 0) → ⊥) → (((i : ℕ) → i < m - 1 → h i ≡ 0) → ⊥)
+  pub fit-none : ((x : ℕ) → x < k → TurnedAmounts m h d x → ⊥) → (((i : ℕ) → i < m - 1 → d i ≡ 0) → ⊥) → (((i : ℕ) → i < m - 1 → h i ≡ 0) → ⊥)
       → (x : ℕ) → x < k + 2 → Fit m k h d x → ⊥
   fit-none turned rows diagonals x inside f = elim (decLt x k) [
     | yes l ↦ turned x l (f .datum l)

@@ -38,7 +38,7 @@ use Rattle.lines.proofs.Equations.{row-at}
 use Rattle.lines.proofs.Valid.{line-more}
 use Rattle.lines.proofs.Amounts.{row-amount-line, diagonal-lines}
 use Rattle.sums.specs.Sums.{windowOf, OneLine}
-use Rattle.locating.specs.Locating.{Searched, broken, Ready, First, Odd, Breaks}
+use Rattle.locating.specs.Locating.{Searched, broken, RoomWithS, First, Odd, Breaks}
 
 -- ---- what a line breaks by
 
@@ -99,7 +99,7 @@ module _ {g : Grid} {s : List ℕ} (z : Searched g s) where
   )
 
   pub made-ready : {w v : List ℕ} {columns : Columns} → columns ≡ every g → length w ≡ 2 * g .b
-      → Put w v (g .b) (g .b) (λ l. getD w (2 * g .b + l) 0 ⊕ windowOf g s 1 (g .m - 1) columns l) → Ready g s v
+      → Put w v (g .b) (g .b) (λ l. getD w (2 * g .b + l) 0 ⊕ windowOf g s 1 (g .m - 1) columns l) → RoomWithS g s v
   made-ready {w} {v} {columns} q size p = record {
     searched = z;
     size = p .size ∙ size;
@@ -113,7 +113,7 @@ module _ {g : Grid} {s : List ℕ} (z : Searched g s) where
 pub seed-most : (e b : ℕ) → (2 - e) * b ≤ 2 * b
 seed-most e b = mul-le-mul-right b (omega arith)
 
-module _ {g : Grid} {s w : List ℕ} (z : Ready g s w) where
+module _ {g : Grid} {s w : List ℕ} (z : RoomWithS g s w) where
   -- the seed of a row is nothing, that of a diagonal S
   module _ (e : ℕ) (slant : e ≤ 1) where
     by-slant : (P : ℕ → ℕ → Type 0) → P 0 (2 * g .b) → P 1 (g .b) → P e ((2 - e) * g .b)
@@ -142,7 +142,7 @@ module _ {g : Grid} {s w : List ℕ} (z : Ready g s w) where
 
     -- the first cell became the line
     pub line-set : {columns : Columns} → columns ≡ every g → (i : ℕ) (v : List ℕ) → Put w v 0 (g .b) (λ l. getD w ((2 - e) * g .b + l) 0 ⊕ windowOf g s e i columns l)
-        → Put w v 0 (g .b) (λ l. broken (g .m) (g .k) (lane (g .m) (g .b) s l) e i) × Ready g s v
+        → Put w v 0 (g .b) (λ l. broken (g .m) (g .k) (lane (g .m) (g .b) s l) e i) × RoomWithS g s v
     line-set q i v p = (
       put-same p (λ l h. summed q i l h),
       record { searched = z .searched; size = p .size ∙ z .size; special = λ l h. p .after (g .b + l) (omega arith) ∙ z .special l h },

@@ -7,13 +7,13 @@
 -- In parts:
 --   Searched g s            a stripe in which that column can be looked for
 --   broken m k a e i        the amount that row i (e = 0) or diagonal i (e = 1) of lane a breaks by: the line with its end, and for a diagonal S
---   Ready g s w             w is room for two cells, of which the second is the stripe's S
+--   RoomWithS g s w         w is room for two cells, of which the second is the stripe's S
 --   First r n f             r is the first number below n at which f is not zero; n where there is none
 --   Odd r b n f             r is a lane below b at which not all of f r 0 to f r (n - 1) are zero; b or more where there is none
 --   Breaks m k b s r        r is a lane below b whose equations do not hold; b or more where there is none
 --   Amounts m h d           h and d are as long as there are rows and diagonals to break
 --   Some n f                not all of f 0 to f (n - 1) are zero
---   Turned m h d u          the diagonals' amounts d are the rows' amounts h, turned by u
+--   TurnedAmounts m h d u   the diagonals' amounts d are the rows' amounts h, turned by u
 --   Whether r P             r is true exactly if P holds
 --   Fit m k h d u           column u can be the wrong one of a lane whose rows break by h and whose diagonals break by d
 --   Blames m k h d r        what r says of such a lane: Column u, that column u can be the wrong one; Nobody, that none can
@@ -54,7 +54,7 @@ pub record Searched (g : Grid) (s : List ℕ) : Type 0 where
 unfoldable pub broken : ℕ → ℕ → Lane → ℕ → ℕ → ℕ
 broken m k a e i = e * window m k a 1 (m - 1) 0 k ⊕ window m k a e i 0 k
 
-pub record Ready (g : Grid) (s w : List ℕ) : Type 0 where
+pub record RoomWithS (g : Grid) (s w : List ℕ) : Type 0 where
   pub searched : Searched g s
   pub size : length w ≡ 2 * g .b
   pub special : (l : ℕ) → l < g .b → getD w (g .b + l) 0 ≡ window (g .m) (g .k) (lane (g .m) (g .b) s l) 1 (g .m - 1) 0 (g .k)
@@ -80,15 +80,15 @@ pub record Amounts (m : ℕ) (h d : List ℕ) : Type 0 where
 abbrev pub Some : ℕ → (ℕ → ℕ) → Type 0
 Some n f = ((i : ℕ) → i < n → f i ≡ 0) → ⊥
 
-abbrev pub Turned : ℕ → (ℕ → ℕ) → (ℕ → ℕ) → ℕ → Type 0
-Turned m h d u = (i : ℕ) → i < m - 1 → d i ≡ h (back m i u) ⊕ h (back m (m - 1) u)
+abbrev pub TurnedAmounts : ℕ → (ℕ → ℕ) → (ℕ → ℕ) → ℕ → Type 0
+TurnedAmounts m h d u = (i : ℕ) → i < m - 1 → d i ≡ h (back m i u) ⊕ h (back m (m - 1) u)
 
 pub record Whether (r : Bool) (P : Type 0) : Type 0 where
   pub yes : r ≡ true → P
   pub no : r ≡ false → P → ⊥
 
 pub record Fit (m k : ℕ) (h d : ℕ → ℕ) (u : ℕ) : Type 0 where
-  pub datum : u < k → Turned m h d u
+  pub datum : u < k → TurnedAmounts m h d u
   pub rows : u ≡ k → (i : ℕ) → i < m - 1 → d i ≡ 0
   pub diagonals : u ≡ k + 1 → (i : ℕ) → i < m - 1 → h i ≡ 0
 

@@ -10,7 +10,7 @@ ghost use lib.ListN.{length, getD};
 ghost use Rattle.parity.specs.Equations.{Holds};
 ghost use Rattle.parity.specs.Stripe.{lane};
 ghost use Rattle.cells.specs.Runs.{Put};
-ghost use Rattle.locating.specs.Locating.{Suspects, Searched, broken, Ready, First, Odd, Breaks, Amounts, Some, Turned, Whether, Blames};
+ghost use Rattle.locating.specs.Locating.{Suspects, Searched, broken, RoomWithS, First, Odd, Breaks, Amounts, Some, TurnedAmounts, Whether, Blames};
 
 // The column that can be the wrong one, if any is wrong.
 pub enum Suspect {
@@ -36,8 +36,8 @@ fn find_set(x: &[u8]) -> usize
 
 // The first lane at which line i breaks; b where there is none. A row is zero where its equation holds, and a diagonal S.
 fn odd_line(room: &mut [u8], s: &[u8], g: Grid, slant: usize, i: usize) -> usize
-    requires { ⌜ Ready g (now s) (now room) × (slant ≤ 1) × (i < g .m) ⌝ }
-    ensures { λ r. ⌜ First r (g .b) (λ l. broken (g .m) (g .k) (lane (g .m) (g .b) (now (s .entry)) l) slant i) × Ready g (now (s .entry)) (now (room .exit)) ⌝ }
+    requires { ⌜ RoomWithS g (now s) (now room) × (slant ≤ 1) × (i < g .m) ⌝ }
+    ensures { λ r. ⌜ First r (g .b) (λ l. broken (g .m) (g .k) (lane (g .m) (g .b) (now (s .entry)) l) slant i) × RoomWithS g (now (s .entry)) (now (room .exit)) ⌝ }
 {
     let b = g.b;
     sums::sum_line(
@@ -55,8 +55,8 @@ fn odd_line(room: &mut [u8], s: &[u8], g: Grid, slant: usize, i: usize) -> usize
 
 // A lane at which one of the lines of that slant breaks; b where there is none.
 fn odd_lines(room: &mut [u8], s: &[u8], g: Grid, slant: usize) -> usize
-    requires { ⌜ Ready g (now s) (now room) × (slant ≤ 1) ⌝ }
-    ensures { λ r. ⌜ Odd r (g .b) (g .m - 1) (λ l i. broken (g .m) (g .k) (lane (g .m) (g .b) (now (s .entry)) l) slant i) × Ready g (now (s .entry)) (now (room .exit)) ⌝ }
+    requires { ⌜ RoomWithS g (now s) (now room) × (slant ≤ 1) ⌝ }
+    ensures { λ r. ⌜ Odd r (g .b) (g .m - 1) (λ l i. broken (g .m) (g .k) (lane (g .m) (g .b) (now (s .entry)) l) slant i) × RoomWithS g (now (s .entry)) (now (room .exit)) ⌝ }
 {
     let b = g.b;
     for i in 0..g.m - 1 {
@@ -70,8 +70,8 @@ fn odd_lines(room: &mut [u8], s: &[u8], g: Grid, slant: usize) -> usize
 
 // A lane whose equations do not hold; b where there is none.
 fn broken_lane(room: &mut [u8], s: &[u8], g: Grid) -> usize
-    requires { ⌜ Ready g (now s) (now room) ⌝ }
-    ensures { λ r. ⌜ Breaks (g .m) (g .k) (g .b) (now (s .entry)) r × Ready g (now (s .entry)) (now (room .exit)) ⌝ }
+    requires { ⌜ RoomWithS g (now s) (now room) ⌝ }
+    ensures { λ r. ⌜ Breaks (g .m) (g .k) (g .b) (now (s .entry)) r × RoomWithS g (now (s .entry)) (now (room .exit)) ⌝ }
 {
     let l = odd_lines(room, s, g, 0);
     if l < g.b {
@@ -82,7 +82,7 @@ fn broken_lane(room: &mut [u8], s: &[u8], g: Grid) -> usize
 
 // The amount that line i breaks by in lane l. at is room for the places of its cells.
 fn amount(at: &mut [usize], room: &[u8], s: &[u8], g: Grid, slant: usize, i: usize, l: usize) -> u8
-    requires { ⌜ (length (now at) ≡ 128) × Ready g (now s) (now room) × (slant ≤ 1) × (i < g .m) × (l < g .b) ⌝ }
+    requires { ⌜ (length (now at) ≡ 128) × RoomWithS g (now s) (now room) × (slant ≤ 1) × (i < g .m) × (l < g .b) ⌝ }
     ensures { λ r. ⌜ r ≡ broken (g .m) (g .k) (lane (g .m) (g .b) (now (s .entry)) l) slant i ⌝ }
 {
     let b = g.b;
@@ -95,7 +95,7 @@ fn amount(at: &mut [usize], room: &[u8], s: &[u8], g: Grid, slant: usize, i: usi
 
 // Byte i of w becomes that amount of line i.
 fn amounts(w: &mut [u8], room: &[u8], s: &[u8], g: Grid, slant: usize, l: usize)
-    requires { ⌜ Ready g (now s) (now room) × (slant ≤ 1) × (length (now w) ≤ g .m) × (l < g .b) ⌝ }
+    requires { ⌜ RoomWithS g (now s) (now room) × (slant ≤ 1) × (length (now w) ≤ g .m) × (l < g .b) ⌝ }
     ensures { λ _. ⌜ Put (now (w .entry)) (now (w .exit)) 0 (length (now (w .entry))) (broken (g .m) (g .k) (lane (g .m) (g .b) (now (s .entry)) l) slant) ⌝ }
 {
     let mut at = [0usize; 128];
@@ -107,7 +107,7 @@ fn amounts(w: &mut [u8], room: &[u8], s: &[u8], g: Grid, slant: usize, l: usize)
 // Whether the diagonals' amounts d are the rows' amounts h turned by u.
 fn turns(h: &[u8], d: &[u8], m: usize, u: usize) -> bool
     requires { ⌜ Amounts m (now h) (now d) × (u < m) ⌝ }
-    ensures { λ r. ⌜ Whether r (Turned m (λ i. getD (now (h .entry)) i 0) (λ i. getD (now (d .entry)) i 0) u) ⌝ }
+    ensures { λ r. ⌜ Whether r (TurnedAmounts m (λ i. getD (now (h .entry)) i 0) (λ i. getD (now (d .entry)) i 0) u) ⌝ }
 {
     let last = lines::row_above(m, m - 1, u);
     for i in 0..m - 1 {
@@ -147,8 +147,8 @@ fn find_column(h: &[u8], d: &[u8], m: usize, k: usize) -> Suspect
 }
 
 // The column that can be the wrong one, judged by lane l, which breaks. h and d are room for its amounts.
-fn judge(h: &mut [u8], d: &mut [u8], room: &[u8], s: &[u8], g: Grid, l: usize) -> Suspect
-    requires { ⌜ Ready g (now s) (now room) × Amounts (g .m) (now h) (now d) × (l < g .b) × (Holds (g .m) (g .k) (lane (g .m) (g .b) (now s) l) → ⊥) ⌝ }
+fn compare_amounts(h: &mut [u8], d: &mut [u8], room: &[u8], s: &[u8], g: Grid, l: usize) -> Suspect
+    requires { ⌜ RoomWithS g (now s) (now room) × Amounts (g .m) (now h) (now d) × (l < g .b) × (Holds (g .m) (g .k) (lane (g .m) (g .b) (now s) l) → ⊥) ⌝ }
     ensures { λ r. ⌜ Suspects (g .m) (g .k) (g .b) (now (s .entry)) r ⌝ }
 {
     let m = g.m;
@@ -160,13 +160,13 @@ fn judge(h: &mut [u8], d: &mut [u8], room: &[u8], s: &[u8], g: Grid, l: usize) -
 
 // The column that can be the wrong one, judged by lane l, with room for its amounts.
 fn judge_lane(room: &[u8], s: &[u8], g: Grid, l: usize) -> Suspect
-    requires { ⌜ Ready g (now s) (now room) × (l < g .b) × (Holds (g .m) (g .k) (lane (g .m) (g .b) (now s) l) → ⊥) ⌝ }
+    requires { ⌜ RoomWithS g (now s) (now room) × (l < g .b) × (Holds (g .m) (g .k) (lane (g .m) (g .b) (now s) l) → ⊥) ⌝ }
     ensures { λ r. ⌜ Suspects (g .m) (g .k) (g .b) (now (s .entry)) r ⌝ }
 {
     let m = g.m;
     let mut h = [0u8; 127];
     let mut d = [0u8; 127];
-    judge(&mut h[0..m], &mut d[0..m - 1], room, s, g, l)
+    compare_amounts(&mut h[0..m], &mut d[0..m - 1], room, s, g, l)
 }
 
 // The column that can be the wrong one, with room for two cells.

@@ -20,13 +20,13 @@ use Rattle.inputs.specs.Rules.{showRules}
 use Rattle.evenodd.specs.Shows.{half, Places, PartAt, Shows}
 use Rattle.inputs.proofs.Rules.{passes-not, gives-one}
 use Rattle.evenodd.proofs.Shown.{passes, in-stripe, in-bench, stripe-fits, bench-fits}
-use Rattle.report.specs.Shown.{columnOf, shown, Held}
+use Rattle.report.specs.Shown.{columnBytes, shown, Held}
 use Rattle.report.specs.Lines.{columnLine, columnLines}
 
 -- a part of a buffer that begins at column u
 part-column : (m b u : ℕ) (x r : List ℕ) (start n : ℕ) → r ≡ take n (drop start x) → start ≡ u * columnLength m b → n ≡ columnLength m b → start + n ≤ length x
-    → (r ≡ columnOf m b x u) × (length r ≡ columnLength m b)
-unfolding columnOf
+    → (r ≡ columnBytes m b x u) × (length r ≡ columnLength m b)
+unfolding columnBytes
 part-column m b u x r start n e at size fits = (
   e ∙ rw (at, size),
   ap length e ∙ length-take-le n (drop start x) (simp length-drop (omega arith)) ∙ size,

@@ -1,5 +1,5 @@
 -- The columns that show hands out, as lists of bytes.
---   columnOf m b s t         column t of the buffer s
+--   columnBytes m b s t      column t of the buffer s
 --   shown m b map s bench t  column t: the stripe's if it is present, otherwise the one in the half of the bench where restore puts it
 --   Held m k b map s bench   show refuses none of the shape's columns
 use mathlib.Core.Path.{_≡_}
@@ -13,11 +13,11 @@ use Rattle.inputs.specs.declared.maps.Map.{Map}
 use Rattle.inputs.specs.Absent.{Stray}
 use Rattle.evenodd.specs.Shows.{half}
 
-unfoldable pub columnOf : ℕ → ℕ → List ℕ → ℕ → List ℕ
-columnOf m b s t = take (columnLength m b) (drop (t * columnLength m b) s)
+unfoldable pub columnBytes : ℕ → ℕ → List ℕ → ℕ → List ℕ
+columnBytes m b s t = take (columnLength m b) (drop (t * columnLength m b) s)
 
 unfoldable pub shown : ℕ → ℕ → List Bool → List ℕ → List ℕ → ℕ → List ℕ
-shown m b map s bench t = cond (present map t) (columnOf m b s t) (columnOf m b bench (half map t))
+shown m b map s bench t = cond (present map t) (columnBytes m b s t) (columnBytes m b bench (half map t))
 
 pub record Held (m k b : ℕ) (map : Map) (s bench : List ℕ) : Type 0 where
   pub shape : Shape m k b

@@ -1,6 +1,7 @@
--- What is told of the input: the first r bytes of `out` are the text, and the rest of it stays.
---   Failure   the answer 8 alone; neither the stripe nor the bench is written
---   Told      the report of what was read; of a read that failed, the answer 8
+-- What is told of the input.
+--   Failure     the answer 8 alone; neither the stripe nor the bench is written
+--   Told        the report of what was read; of a read that failed, the answer 8
+--   TellsInput  the first r bytes of `out` are that text, and the rest of it stays
 use mathlib.Core.Path.{_≡_}
 use mathlib.Core.List.{List}
 use Prim.Native.Nat.{ℕ, _≤_}
@@ -22,7 +23,7 @@ Told (More n) buf s after bench benched before out r = Reports (take n buf) s af
 Told (Whole n) buf s after bench benched before out r = Reports (take n buf) s after bench benched before out r
 Told Failed buf s after bench benched before out r = Failure s after bench benched out r
 
-pub record Tells (input : Input) (buf s after bench benched before out : List ℕ) (r : ℕ) : Type 0 where
+pub record TellsInput (input : Input) (buf s after bench benched before out : List ℕ) (r : ℕ) : Type 0 where
   pub within : r ≤ length out
   pub told : Told input buf s after bench benched before out r
   pub rest : drop r out ≡ drop r before

@@ -3,7 +3,7 @@ use crate::reading::Input;
 ghost use Prim.Native.Nat.{_≤_};
 ghost use lib.ListN.{length};
 ghost use Rattle.shelf.specs.Reading.{Taken};
-ghost use Rattle.shelf.specs.Telling.{Tells};
+ghost use Rattle.shelf.specs.Telling.{TellsInput};
 
 // Writes what is told of the input at the start of `out`, and answers its length: the report of what was read, or that a read failed. The stripe
 // and the bench are lent for the work.
@@ -15,7 +15,7 @@ pub(crate) fn tell(
     out: &mut [u8],
 ) -> usize
     requires { ⌜ Taken (length (now buf)) input × (102400 ≤ length (now out)) ⌝ }
-    ensures { λ r. ⌜ Tells input (now (buf .entry)) (now (stripe .entry)) (now (stripe .exit)) (now (bench .entry)) (now (bench .exit)) (now (out .entry)) (now (out .exit)) r ⌝ }
+    ensures { λ r. ⌜ TellsInput input (now (buf .entry)) (now (stripe .entry)) (now (stripe .exit)) (now (bench .entry)) (now (bench .exit)) (now (out .entry)) (now (out .exit)) r ⌝ }
 {
     match input {
         Input::More(n) => report::report(&buf[0..n], stripe, bench, out),

@@ -63,8 +63,8 @@ spread c =
 loop-holds : tie.Need-loop-holds Inv-loop μ-loop
 loop-holds c = (search needs, search needs, grown-begin (c .before .before .before .before .before .before .before .before .before .before .before .args .g) 0 (c .before .before .spread .last .0))
 
-add-column-requires : tie.Need-add-column-requires Inv-loop μ-loop
-add-column-requires c κs = (laid-kept (c .before .before .loop .inv .2 .size ∙ spread (c .before .before .before) .size) (c .before .before .before .before .before .before .before .before .before .before .before .before .before .before .pre), omega arith)
+put-column-requires : tie.Need-put-column-requires Inv-loop μ-loop
+put-column-requires c κs = (laid-kept (c .before .before .loop .inv .2 .size ∙ spread (c .before .before .before) .size) (c .before .before .before .before .before .before .before .before .before .before .before .before .before .before .pre), omega arith)
 
 add-t : tie.Need-add-t Inv-loop μ-loop
 add-t c = search needs
@@ -73,7 +73,7 @@ loop-less : tie.Need-loop-less Inv-loop μ-loop
 loop-less c = search needs
 
 loop-again : tie.Need-loop-again Inv-loop μ-loop
-loop-again c = (search needs, search needs, grown-join (omega arith) (omega arith) (c .before .before .before .before .before .loop .inv .2) (c .before .before .add-column .ensures))
+loop-again c = (search needs, search needs, grown-join (omega arith) (omega arith) (c .before .before .before .before .before .loop .inv .2) (c .before .before .put-column .ensures))
 
 same-length : tie.Need-same-length Inv-loop μ-loop
 same-length c = c .before .loop .inv .2 .size ∙ spread (c .before .before) .size
@@ -100,7 +100,7 @@ put-columns-spec =
     add-spread
     spread-requires
     loop-holds
-    add-column-requires
+    put-column-requires
     add-t
     loop-less
     loop-again

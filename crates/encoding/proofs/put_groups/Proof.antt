@@ -25,8 +25,8 @@ loop-holds c = (search needs, refl, λ e. refl, λ h. absurd (omega arith))
 group-end-requires : tie.Need-group-end-requires Inv-loop μ-loop
 group-end-requires c κs = search needs
 
-put-rows-requires : tie.Need-put-rows-requires Inv-loop μ-loop
-put-rows-requires c κs =
+put-group-requires : tie.Need-put-group-requires Inv-loop μ-loop
+put-group-requires c κs =
     let p = c .before .before .before .before .before .before .pre in
     let e = c .before .group-end .ensures in
     record { laid = laid-kept (c .before .before .before .before .loop .inv .1) p; order = omega arith; most = e .1; few = e .2 }
@@ -38,7 +38,7 @@ loop-again : tie.Need-loop-again Inv-loop μ-loop
 loop-again c =
     let y = c .before .before .before .before .before .before .before .loop in
     let e = c .before .before .before .before .group-end .ensures in
-    let q = c .before .before .put-rows in
+    let q = c .before .before .put-group in
     (e .1, q .ensures .size ∙ y .inv .1, λ z. absurd (omega arith), λ h. grown-group (y .t) (omega arith) (e .1) (y .inv .2) (y .inv .3) (q .ensures))
 
 same-length : tie.Need-same-length Inv-loop μ-loop
@@ -59,7 +59,7 @@ put-groups-spec =
     μ-loop
     loop-holds
     group-end-requires
-    put-rows-requires
+    put-group-requires
     loop-less
     loop-again
     same-length

@@ -3,7 +3,7 @@ use Prim.Native.Nat.{ℕ, _-_, _≤_, _<_}
 use lib.ListN.{getD}
 use denote.Ref.{now}
 use borrow.Author.Count.{below-more}
-use Rattle.locating.specs.Locating.{Turned}
+use Rattle.locating.specs.Locating.{TurnedAmounts}
 use Rattle.locating.proofs.Fitting.{fit-data, fit-none}
 use borrow.Author.Needs.{needs}
 use native.Mathlib.Omega.{arith}
@@ -12,7 +12,7 @@ use Rattle.locating.proofs.find_turn.Tie as tie
 
 abbrev Inv-loop : tie.InvT-loop
 Inv-loop h d m k u₀ u =
-    (u ≤ k) × ((x : ℕ) → x < u → Turned m (λ i. getD h i 0) (λ i. getD d i 0) x → ⊥)
+    (u ≤ k) × ((x : ℕ) → x < u → TurnedAmounts m (λ i. getD h i 0) (λ i. getD d i 0) x → ⊥)
 
 abbrev μ-loop : tie.MeasureT-loop
 μ-loop h d m k u₀ u = k - u

@@ -5,8 +5,8 @@ use native.Mathlib.Omega.{arith}
 use Rattle.locating.proofs.judge_lane.Statement.{statement}
 use Rattle.locating.proofs.judge_lane.Tie as tie
 
-sub-judge : tie.Need-sub-judge
-sub-judge c = search needs
+sub-compare-amounts : tie.Need-sub-compare-amounts
+sub-compare-amounts c = search needs
 
 part-h-start : tie.Need-part-h-start
 part-h-start c = search needs
@@ -14,11 +14,11 @@ part-h-start c = search needs
 part-h-end : tie.Need-part-h-end
 part-h-end c = omega (arith, c .before .before .pre .0 .searched .laid .sized .few)
 
-sub-judge-2 : tie.Need-sub-judge-2
-sub-judge-2 c = omega (arith, c .before .before .before .pre .0 .searched .laid .sized .big)
+sub-compare-amounts-2 : tie.Need-sub-compare-amounts-2
+sub-compare-amounts-2 c = omega (arith, c .before .before .before .pre .0 .searched .laid .sized .big)
 
-sub-judge-3 : tie.Need-sub-judge-3
-sub-judge-3 c = search needs
+sub-compare-amounts-3 : tie.Need-sub-compare-amounts-3
+sub-compare-amounts-3 c = search needs
 
 part-d-start : tie.Need-part-d-start
 part-d-start c = search needs
@@ -26,8 +26,8 @@ part-d-start c = search needs
 part-d-end : tie.Need-part-d-end
 part-d-end c = omega (arith, c .before .before .before .pre .0 .searched .laid .sized .few)
 
-judge-requires : tie.Need-judge-requires
-judge-requires c κs =
+compare-amounts-requires : tie.Need-compare-amounts-requires
+compare-amounts-requires c κs =
     let p = c .before .before .before .before .pre in
     (p .0, record { rows = search needs; diagonals = search needs; few = p .0 .searched .laid .sized .few }, p .1, p .2)
 
@@ -38,12 +38,12 @@ pub judge-lane-spec : {M : Type 1} → statement M
 judge-lane-spec =
     tie.close
     (tie.spec
-    sub-judge
+    sub-compare-amounts
     part-h-start
     part-h-end
-    sub-judge-2
-    sub-judge-3
+    sub-compare-amounts-2
+    sub-compare-amounts-3
     part-d-start
     part-d-end
-    judge-requires
+    compare-amounts-requires
     returns)

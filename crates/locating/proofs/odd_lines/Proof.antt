@@ -3,7 +3,7 @@ use mathlib.Core.Path.{_≡_}
 use Prim.Native.Nat.{ℕ, _-_, _≤_, _<_}
 use denote.Ref.{now}
 use Rattle.parity.specs.Stripe.{lane}
-use Rattle.locating.specs.Locating.{broken, Ready}
+use Rattle.locating.specs.Locating.{broken, RoomWithS}
 use Rattle.locating.proofs.Lanes.{odd-there, odd-none, odd-more}
 use borrow.Author.Needs.{needs}
 use native.Mathlib.Omega.{arith}
@@ -12,7 +12,7 @@ use Rattle.locating.proofs.odd_lines.Tie as tie
 
 abbrev Inv-loop : tie.InvT-loop
 Inv-loop room₀ s g slant b i₀ i-end room i =
-    (i-end ≡ g .m - 1) × (i ≤ i-end) × Ready g s room × ((j : ℕ) → j < i → (l : ℕ) → l < g .b → broken (g .m) (g .k) (lane (g .m) (g .b) s l) slant j ≡ 0)
+    (i-end ≡ g .m - 1) × (i ≤ i-end) × RoomWithS g s room × ((j : ℕ) → j < i → (l : ℕ) → l < g .b → broken (g .m) (g .k) (lane (g .m) (g .b) s l) slant j ≡ 0)
 
 abbrev μ-loop : tie.MeasureT-loop
 μ-loop room₀ s g slant b i₀ i-end room i = i-end - i

@@ -1,4 +1,4 @@
--- `image::table::Table::entered` meets its contract: a law of `Walked` for each state of an entry.
+-- `image::table::Table::entered` meets its contract: a law of `WalkedContents` for each state of an entry.
 use Rattle.image.proofs.Entering.{walked-present, walked-absent, walked-wrong}
 use borrow.Author.Needs.{needs}
 use Rattle.image.proofs.table.Table.entered.Statement.{statement}

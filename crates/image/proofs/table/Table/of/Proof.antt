@@ -2,7 +2,7 @@
 use mathlib.Core.Path.{_≡_}
 use Prim.Native.Nat.{_*_, _-_, _≤_}
 use native.Mathlib.Nat.{mul-le-mul}
-use Rattle.image.specs.Entries.{entryAt, Walked}
+use Rattle.image.specs.Entries.{entryAt, WalkedContents}
 use Rattle.image.proofs.Entering.{walked-none}
 use borrow.Author.Needs.{needs}
 use native.Mathlib.Omega.{arith}
@@ -10,7 +10,7 @@ use Rattle.image.proofs.table.Table.of.Statement.{statement}
 use Rattle.image.proofs.table.Table.of.Tie as tie
 
 abbrev Inv-loop : tie.InvT-loop
-Inv-loop image columns column table₀ t₀ table t = (t ≤ columns) × Walked image (entryAt columns) column t table
+Inv-loop image columns column table₀ t₀ table t = (t ≤ columns) × WalkedContents image (entryAt columns) column t table
 
 abbrev μ-loop : tie.MeasureT-loop
 μ-loop image columns column table₀ t₀ table t = columns - t

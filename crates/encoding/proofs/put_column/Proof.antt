@@ -1,11 +1,11 @@
--- `encoding::add_column` meets its contract: the data column lies before H and D.
+-- `encoding::put_column` meets its contract: the data column lies before H and D.
 use denote.Ref.{now}
 use Rattle.cells.proofs.Parts.{parts-end}
 use Rattle.encoding.proofs.Columns.{column-grown}
 use borrow.Author.Needs.{needs}
 use native.Mathlib.Omega.{arith}
-use Rattle.encoding.proofs.add_column.Statement.{statement}
-use Rattle.encoding.proofs.add_column.Tie as tie
+use Rattle.encoding.proofs.put_column.Statement.{statement}
+use Rattle.encoding.proofs.put_column.Tie as tie
 
 mul-h : tie.Need-mul-h
 mul-h c = search needs
@@ -35,8 +35,8 @@ returns c =
     let u = c .before .before .add-turned-within2 in
     column-grown (z .args .g) (z .pre .0 .sized) (now (z .args .s)) (t .last .0) (u .last .0) (z .args .t) (z .pre .1) (t .ensures) (u .ensures)
 
-pub add-column-spec : {M : Type 1} → statement M
-add-column-spec =
+pub put-column-spec : {M : Type 1} → statement M
+put-column-spec =
     tie.close
     (tie.spec
     mul-h

@@ -1,4 +1,4 @@
--- `encoding::put_rows` meets its contract. The invariant: the rows before i are done, the others as they were.
+-- `encoding::put_group` meets its contract. The invariant: the rows before i are done, the others as they were.
 use mathlib.Core.Path.{_≡_, subst}
 use Prim.Native.Nat.{ℕ, _≤_, _-_}
 use lib.Dec.{eqb}
@@ -8,8 +8,8 @@ use Rattle.encoding.proofs.Values.{group-kept}
 use Rattle.encoding.proofs.Rows.{grown-none, grown-next}
 use borrow.Author.Needs.{needs}
 use native.Mathlib.Omega.{arith}
-use Rattle.encoding.proofs.put_rows.Statement.{statement}
-use Rattle.encoding.proofs.put_rows.Tie as tie
+use Rattle.encoding.proofs.put_group.Statement.{statement}
+use Rattle.encoding.proofs.put_group.Tie as tie
 
 abbrev Inv-loop : tie.InvT-loop
 Inv-loop s₀ g t0 t1 i₀ i-end s i =
@@ -53,8 +53,8 @@ returns c =
     let e : y .i ≡ a .g .m - 1 = omega arith in
     subst (λ (n : ℕ). Grown (eqb (a .t0) 0) (a .g) (a .t0) (a .t1) (now (a .s)) (y .s) 0 n) e (y .inv .2)
 
-pub put-rows-spec : {M : Type 1} → statement M
-put-rows-spec =
+pub put-group-spec : {M : Type 1} → statement M
+put-group-spec =
     tie.close
     (tie.spec
     Inv-loop

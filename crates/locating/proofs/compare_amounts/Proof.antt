@@ -1,4 +1,4 @@
--- `locating::judge` meets its contract: h and d become the amounts of lane l, and in a lane that breaks at most one column can be wrong.
+-- `locating::compare_amounts` meets its contract: h and d become the amounts of lane l, and in a lane that breaks at most one column can be wrong.
 use mathlib.Core.Path.{_∙_}
 use Prim.Native.Nat.{_-_}
 use lib.ListN.{getD}
@@ -8,8 +8,8 @@ use Rattle.parity.proofs.Candidate.{row-amount-last}
 use Rattle.locating.proofs.Fitting.{rows-are, diagonals-are, judged}
 use borrow.Author.Needs.{needs}
 use native.Mathlib.Omega.{arith}
-use Rattle.locating.proofs.judge.Statement.{statement}
-use Rattle.locating.proofs.judge.Tie as tie
+use Rattle.locating.proofs.compare_amounts.Statement.{statement}
+use Rattle.locating.proofs.compare_amounts.Tie as tie
 
 amounts-requires : tie.Need-amounts-requires
 amounts-requires c κs =
@@ -50,8 +50,8 @@ returns c =
     (rows-are (a .g .m) (a .g .k) (q .laid .few) (lane (a .g .m) (a .g .b) (now (a .s)) (a .l)) (p .1 .rows) (h .ensures))
     (diagonals-are (a .g .m) (a .g .k) (q .laid .few) (lane (a .g .m) (a .g .b) (now (a .s)) (a .l)) (q .laid .sized .big) (p .1 .diagonals) (d .ensures)) (c .find-column .result) (c .find-column .ensures)
 
-pub judge-spec : {M : Type 1} → statement M
-judge-spec =
+pub compare-amounts-spec : {M : Type 1} → statement M
+compare-amounts-spec =
     tie.close
     (tie.spec
     amounts-requires
