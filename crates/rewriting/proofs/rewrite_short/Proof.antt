@@ -1,5 +1,4 @@
 -- `rewriting::rewrite_short` meets its contract: the room is long enough.
-use mathlib.Core.Path.{_≡_}
 use borrow.Author.Needs.{needs}
 use Rattle.rewriting.proofs.rewrite_short.Statement.{statement}
 use Rattle.rewriting.proofs.rewrite_short.Tie as tie
