@@ -116,9 +116,7 @@ pub fn two_absent(out: &mut [u8], at: usize) -> usize
         out,
         at,
         b"C4",
-        5,
-        5,
-        1,
+        [5, 5, 1],
         seven.mark_absent(0).mark_absent(2),
         &c4,
         &mut bench4,
@@ -126,7 +124,7 @@ pub fn two_absent(out: &mut [u8], at: usize) -> usize
     let c5 = [255u8, 255, 4, 8, 255, 255, 21, 42, 57, 30];
     let mut bench5 = [161u8, 162, 163, 164];
     let map = five().mark_absent(0).mark_absent(2);
-    restore_line(out, first, b"C5", 3, 3, 1, map, &c5, &mut bench5)
+    restore_line(out, first, b"C5", [3, 3, 1], map, &c5, &mut bench5)
 }
 
 // C6 to C8: C1 with 04 turned to 05.
@@ -136,9 +134,9 @@ pub fn wrong_byte(out: &mut [u8], at: usize) -> usize
     let mut stripe = [1u8, 2, 5, 8, 16, 32, 21, 42, 57, 30];
     let mut bench = [161u8, 162, 163, 164];
     let one = five().mark_absent(0);
-    let first = restore_line(out, at, b"C6", 3, 3, 1, one, &stripe, &mut bench);
+    let first = restore_line(out, at, b"C6", [3, 3, 1], one, &stripe, &mut bench);
     let two = one.mark_absent(2);
-    let second = restore_line(out, first, b"C7", 3, 3, 1, two, &stripe, &mut bench);
+    let second = restore_line(out, first, b"C7", [3, 3, 1], two, &stripe, &mut bench);
     let third = check_line(out, second, b"C8", 3, 3, 1, &stripe);
     mend_line(out, third, b"C8", 3, 3, 1, &mut stripe)
 }
@@ -159,7 +157,7 @@ pub fn three_absent(out: &mut [u8], at: usize) -> usize
     let c1 = [1u8, 2, 4, 8, 16, 32, 21, 42, 57, 30];
     let mut bench = [161u8, 162, 163, 164];
     let map = five().mark_absent(0).mark_absent(1).mark_absent(2);
-    let first = restore_line(out, at, b"C10", 3, 3, 1, map, &c1, &mut bench);
+    let first = restore_line(out, at, b"C10", [3, 3, 1], map, &c1, &mut bench);
     let mut c11 = [0u8; 10];
     let second = check_line(out, first, b"C11", 3, 3, 1, &c11);
     mend_line(out, second, b"C11", 3, 3, 1, &mut c11)

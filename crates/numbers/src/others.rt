@@ -65,10 +65,10 @@ pub(crate) fn places(out: &mut [u8], at: usize) -> usize {
     let mut bench = [161u8, 162, 163, 164];
     let map = five();
     let stray = map.mark_present(5);
-    let first = restore_line(out, at, b"place=5", 3, 3, 1, stray, &c1, &mut bench);
-    let second = show_line(out, first, b"place=5", 3, 3, 1, stray, &c1, &bench, 0);
+    let first = restore_line(out, at, b"place=5", [3, 3, 1], stray, &c1, &mut bench);
+    let second = show_line(out, first, b"place=5", [3, 3, 1], stray, &c1, &bench, 0);
     let mut short = [161u8];
-    restore_line(out, second, b"shape+bench", 2, 3, 1, map, &c1, &mut short)
+    restore_line(out, second, b"shape+bench", [2, 3, 1], map, &c1, &mut short)
 }
 
 // Two lanes wrong in two columns, and a wrong cell that lies in S.

@@ -117,9 +117,7 @@ pub fn restore_line(
     out: &mut [u8],
     at: usize,
     name: &[u8],
-    m: usize,
-    k: usize,
-    b: usize,
+    shape: [usize; 3],
     map: Map,
     stripe: &[u8],
     bench: &mut [u8],
@@ -127,7 +125,7 @@ pub fn restore_line(
     ensures { λ r. ⌜ (at ≤ r) × (r ≤ at + (length (now (name .entry)) + 230)) ⌝ }
 {
     let first = say_head(out, at, name, b" restore");
-    let answer = evenodd::restore(m, k, b, map, stripe, bench);
+    let answer = evenodd::restore(shape[0], shape[1], shape[2], map, stripe, bench);
     let second = say_restored(out, first, answer);
     say_last(out, second, bench)
 }
@@ -147,9 +145,7 @@ pub fn show_line(
     out: &mut [u8],
     at: usize,
     name: &[u8],
-    m: usize,
-    k: usize,
-    b: usize,
+    shape: [usize; 3],
     map: Map,
     stripe: &[u8],
     bench: &[u8],
@@ -158,7 +154,7 @@ pub fn show_line(
     ensures { λ r. ⌜ (at ≤ r) × (r ≤ at + (length (now (name .entry)) + 26)) ⌝ }
 {
     let first = say_head(out, at, name, b" show");
-    let answer = evenodd::place_of(m, k, b, map, stripe, bench, column);
+    let answer = evenodd::place_of(shape[0], shape[1], shape[2], map, stripe, bench, column);
     let second = say_placed(out, first, answer);
     say_word(out, second, b"\n")
 }
