@@ -5,11 +5,12 @@
  * columns. `places` is a presence map: one byte a place, place 0 first; 1 is present, any other byte is absent.
  *
  * Every call returns 0, or the number of the refusal:
- *    1  m, k or b outside its rule             6  mend: no valid stripe differs in at most one column
+ *    1  m is not an odd prime from 3 to 127    6  mend: no valid stripe differs in at most one column
  *    2  stripe length differs                  7  column number not below k + 2
  *    3  bench length differs                   8  image malformed
  *    4  three or more columns absent           9  map has a place at or above k + 2 present
- *    5  no valid stripe agrees with every present column
+ *    5  no valid stripe agrees with           12  k is 0 or above m
+ *       every present column                  13  b is 0 or above 4,096
  * The first that applies, in the order given at each call. A refused call changes no byte of a stripe or bench. The numbers behind
  * pointers, and the places that oarwillow_read gives, are results: they are written on every call, also on a refused one.
  *
@@ -26,31 +27,31 @@
 extern "C" {
 #endif
 
-/* Writes H and D from the data columns, which stay. Refusals: 1, 2. */
+/* Writes H and D from the data columns, which stay. Refusals: 1, 12, 13, 2. */
 uint8_t oarwillow_encode(size_t m, size_t k, size_t b, uint8_t *stripe, size_t stripe_len);
 
 /* Counts the rows whose H equation breaks and the numbers whose D equation breaks; a cell counts once. Writes no byte of the stripe.
- * Both counts are 0 exactly for an intact stripe, and on a refusal. Refusals: 1, 2. */
+ * Both counts are 0 exactly for an intact stripe, and on a refusal. Refusals: 1, 12, 13, 2. */
 uint8_t oarwillow_check(size_t m, size_t k, size_t b, const uint8_t *stripe, size_t stripe_len, size_t *rows, size_t *diagonals);
 
 /* Restores the columns that are absent to the bench: the lowest to the first half, the other to the second; a half that is not needed
  * stays. Gives how many were restored and their numbers, 129 standing for none. What stands in an absent column's place never alters
- * the answer. On a refusal: 0, 129, 129. Refusals: 1, 2, 3, 9, 4, 5. */
+ * the answer. On a refusal: 0, 129, 129. Refusals: 1, 12, 13, 2, 3, 9, 4, 5. */
 uint8_t oarwillow_restore(size_t m, size_t k, size_t b, const uint8_t places[129], const uint8_t *stripe, size_t stripe_len,
                           uint8_t *bench, size_t bench_len, size_t *count, size_t *first, size_t *second);
 
 /* Takes a stripe with every column present. If it is valid, writes nothing and gives column 129. If a valid stripe differs from it in
- * exactly one column, rewrites that column and gives its number. On a refusal: 129. Refusals: 1, 2, 6. */
+ * exactly one column, rewrites that column and gives its number. On a refusal: 129. Refusals: 1, 12, 13, 2, 6. */
 uint8_t oarwillow_mend(size_t m, size_t k, size_t b, uint8_t *stripe, size_t stripe_len, size_t *column);
 
 /* Says where a column lies: `from_bench` 0 for the stripe and 1 for the bench, and the part's start and length there. It reads no byte
- * and does not judge whether the bench was filled. On a refusal: 0, 0, 0. Refusals: 1, 2, 3, 9, 7, 4. */
+ * and does not judge whether the bench was filled. On a refusal: 0, 0, 0. Refusals: 1, 12, 13, 2, 3, 9, 7, 4. */
 uint8_t oarwillow_show(size_t m, size_t k, size_t b, const uint8_t places[129], const uint8_t *stripe, size_t stripe_len,
                        const uint8_t *bench, size_t bench_len, size_t column, size_t *from_bench, size_t *start, size_t *length);
 
 /* Reads a shelf image: its shape, its presence map, and the bodies of the present columns to their places in the stripe; absent
  * columns' bytes stay. On a refusal: shape 0 0 0, and every place absent. Refusals: 8 for under eight bytes or a non-zero fourth
- * number, 1, 8 for any other departure, 2. */
+ * number, 1, 12, 13, 8 for any other departure, 2. */
 uint8_t oarwillow_read(const uint8_t *image, size_t image_len, uint8_t *stripe, size_t stripe_len, uint8_t places[129], size_t *m,
                        size_t *k, size_t *b);
 

@@ -6,7 +6,7 @@ pub const PLACES: usize = 129;
 pub const NO_COLUMN: usize = 129;
 
 pub const FINE: u8 = 0;
-pub const BAD_SHAPE: u8 = 1;
+pub const WRONG_M: u8 = 1;
 pub const BAD_STRIPE: u8 = 2;
 pub const BAD_BENCH: u8 = 3;
 pub const TOO_MANY_ABSENT: u8 = 4;
@@ -16,6 +16,8 @@ pub const BAD_NUMBER: u8 = 7;
 pub const BAD_IMAGE: u8 = 8;
 pub const STRAY_PLACE: u8 = 9;
 pub const INPUT_TOO_LONG: u8 = 10;
+pub const WRONG_K: u8 = 12;
+pub const WRONG_B: u8 = 13;
 
 /// Three shape numbers as handed in. The methods other than `judge` are for numbers that were accepted.
 #[derive(Clone, Copy, PartialEq, Debug)]
@@ -24,10 +26,13 @@ pub struct Shape { pub m: usize, pub k: usize, pub b: usize }
 pub fn is_odd_prime(n: usize) -> bool { n >= 3 && (2..n).take_while(|d| d * d <= n).all(|d| n % d != 0) }
 
 impl Shape {
+    /// The first number that is wrong: m, then k for this m, then b.
     pub fn judge(self) -> u8 {
         let Shape { m, k, b } = self;
-        let good = m <= 127 && is_odd_prime(m) && 1 <= k && k <= m && 1 <= b && b <= 4096;
-        if good { FINE } else { BAD_SHAPE }
+        if m > 127 || !is_odd_prime(m) { return WRONG_M; }
+        if k < 1 || k > m { return WRONG_K; }
+        if b < 1 || b > 4096 { return WRONG_B; }
+        FINE
     }
     pub fn columns(self) -> usize { self.k + 2 }
     pub fn column_length(self) -> usize { (self.m - 1) * self.b }

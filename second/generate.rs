@@ -49,14 +49,27 @@ pub const BAD_B: [usize; 8] = [0, 4097, 4098, 8192, 65_535, 65_537, (1 << 32) + 
 pub const PATTERNS: [&str; 9] = ["none", "data", "H", "D", "data+data", "data+H", "data+D", "H+D", "three-or-more"];
 pub const AT_MOST_ONE: [&str; 4] = ["none", "data", "H", "D"];
 
-const RESTORE_ORDER: [u8; 6] = [1, 2, 3, 9, 4, 5];
-const SHOW_ORDER: [u8; 6] = [1, 2, 3, 9, 7, 4];
-pub const RESTORE_PAIRS: [[u8; 2]; 12] =
-    [[1, 2], [1, 3], [1, 9], [1, 4], [2, 3], [2, 9], [2, 4], [3, 9], [3, 4], [3, 5], [9, 4], [9, 5]];
-pub const SHOW_PAIRS: [[u8; 2]; 15] = [
-    [1, 2], [1, 3], [1, 9], [1, 7], [1, 4], [2, 3], [2, 9], [2, 7], [2, 4], [3, 9], [3, 7], [3, 4], [9, 7], [9, 4],
-    [7, 4],
-];
+const SHAPE_ORDER: [u8; 3] = [1, 12, 13];
+pub const PLAIN_ORDER: [u8; 4] = [1, 12, 13, 2];
+pub const RESTORE_ORDER: [u8; 8] = [1, 12, 13, 2, 3, 9, 4, 5];
+pub const SHOW_ORDER: [u8; 8] = [1, 12, 13, 2, 3, 9, 7, 4];
+/// How an image's first eight bytes are judged.
+pub const HEADER_ORDER: [u8; 4] = [8, 1, 12, 13];
+
+/// Every two faults of an order that can be made together, and the three of a shape.
+pub fn together(order: &[u8]) -> Vec<Vec<u8>> {
+    let mut list = vec![SHAPE_ORDER.to_vec()];
+    for (n, &x) in order.iter().enumerate() {
+        // 5 needs a good shape, a stripe of its length, and at most two columns absent.
+        let later = order[n + 1..].iter().filter(|&&y| y != NONE_FITS || [BAD_BENCH, STRAY_PLACE].contains(&x));
+        list.extend(later.map(|&y| vec![x, y]));
+    }
+    list
+}
+
+fn alone_and_together(order: &[u8]) -> Vec<Vec<u8>> {
+    order.iter().map(|&number| vec![number]).chain(together(order)).collect()
+}
 
 #[derive(Clone, Copy, PartialEq)]
 #[rustfmt::skip]
@@ -65,13 +78,33 @@ enum Damage { None, OneColumn, TwoColumns, Lanes, Imaginary, Garbage, H, D }
 #[derive(Clone, Copy, PartialEq)]
 #[rustfmt::skip]
 enum Flaw {
-    Short, Fourth, Shape, EightOnly, ContentsCut, BodyCut, Trailing, Gap, Offset, State, Flip, Column, Swap, Pad,
+    /// A wrong number of the shape, named by its refusal.
+    Wrong(u8),
+    Short, Fourth, EightOnly, ContentsCut, BodyCut, Trailing, Gap, Offset, State, Flip, Column, Swap, Pad,
 }
 
-const FLAWS: [Flaw; 14] = {
+#[rustfmt::skip]
+const FLAWS: [Flaw; 16] = {
     use Flaw::*;
-    [Short, Fourth, Shape, EightOnly, ContentsCut, BodyCut, Trailing, Gap, Offset, State, Flip, Column, Swap, Pad]
+    [
+        Wrong(WRONG_M), Wrong(WRONG_K), Wrong(WRONG_B),
+        Short, Fourth, EightOnly, ContentsCut, BodyCut, Trailing, Gap, Offset, State, Flip, Column, Swap, Pad,
+    ]
 };
+
+/// A wrong number of the shape with each other flaw, and all three wrong.
+fn wrong_and_more() -> Vec<Vec<Flaw>> {
+    let pairs = (0..3).flat_map(|n| FLAWS[n + 1..].iter().map(move |&other| vec![FLAWS[n], other]));
+    pairs.chain([FLAWS[..3].to_vec()]).collect()
+}
+
+/// The refusals of the shape that these flaws are for, in order.
+fn wrong_numbers(flaws: &[Flaw]) -> Vec<u8> {
+    SHAPE_ORDER.into_iter().filter(|&number| flaws.contains(&Flaw::Wrong(number))).collect()
+}
+
+/// The kinds of images for `shelf`.
+pub const IMAGE_KINDS: usize = 91;
 
 enum Recipe {
     /// Encode, check or mend.
@@ -87,7 +120,7 @@ enum Recipe {
 fn code_recipes() -> Vec<Recipe> {
     use Damage::*;
     let mut list = Vec::new();
-    for faults in [vec![], vec![1], vec![2], vec![1, 2]] {
+    for faults in alone_and_together(&PLAIN_ORDER).into_iter().chain([vec![]]) {
         list.push(Recipe::Plain(Request::Encode, faults.clone(), Garbage));
         list.push(Recipe::Plain(Request::Check, faults.clone(), OneColumn));
         list.push(Recipe::Plain(Request::Mend, faults, OneColumn));
@@ -107,10 +140,8 @@ fn code_recipes() -> Vec<Recipe> {
         list.push(Recipe::Restore(vec![5], pattern, None));
         list.push(Recipe::Restore(vec![], pattern, TwoColumns));
     }
-    RESTORE_ORDER.iter().for_each(|&n| list.push(Recipe::Restore(vec![n], "any", None)));
-    RESTORE_PAIRS.iter().for_each(|pair| list.push(Recipe::Restore(pair.to_vec(), "any", None)));
-    SHOW_ORDER.iter().for_each(|&n| list.push(Recipe::Show(vec![n], "any")));
-    SHOW_PAIRS.iter().for_each(|pair| list.push(Recipe::Show(pair.to_vec(), "any")));
+    list.extend(alone_and_together(&RESTORE_ORDER).into_iter().map(|faults| Recipe::Restore(faults, "any", None)));
+    list.extend(alone_and_together(&SHOW_ORDER).into_iter().map(|faults| Recipe::Show(faults, "any")));
     list.extend([Recipe::Mark(true), Recipe::Mark(true), Recipe::Mark(false)]);
     list
 }
@@ -123,21 +154,24 @@ fn image_recipes() -> Vec<Recipe> {
     }
     for flaw in FLAWS {
         list.push(Recipe::Contents(vec![flaw], "any"));
-        list.push(Recipe::Contents(vec![Flaw::Shape, flaw], "any"));
         list.push(Recipe::Read(vec![flaw], "any", true));
         list.push(Recipe::Read(vec![flaw], "any", false));
+    }
+    for flaws in wrong_and_more() {
+        list.push(Recipe::Contents(flaws.clone(), "any"));
+        list.push(Recipe::Read(flaws, "any", true));
     }
     list
 }
 
-pub struct Maker { random: Random, primes: Vec<usize>, size_turn: usize, prime_turn: usize, bad_turn: usize }
+pub struct Maker { random: Random, primes: Vec<usize>, size_turn: usize, prime_turn: usize, bad_turns: [usize; 3] }
 
-struct Scene { made_for: Shape, shape: Shape, map: Map, stripe: Vec<u8>, bench: Vec<u8> }
+struct Scene { shape: Shape, map: Map, stripe: Vec<u8>, bench: Vec<u8> }
 
 impl Maker {
     pub fn new(seed: u64) -> Maker {
         let primes = (3..=127).filter(|&m| is_odd_prime(m)).collect();
-        Maker { random: Random(seed), primes, size_turn: 0, prime_turn: 0, bad_turn: 0 }
+        Maker { random: Random(seed), primes, size_turn: 0, prime_turn: 0, bad_turns: [0; 3] }
     }
 
     pub fn cases(mut self, count: usize) -> impl Iterator<Item = Case> {
@@ -269,27 +303,33 @@ impl Maker {
         }
     }
 
-    /// A shape with one number spoiled, sometimes a second one. Without a limit the bad values come in turn.
-    fn bad_shape(&mut self, good: Shape, limit: Option<usize>) -> Shape {
+    /// The shape with those of its numbers wrong whose refusals are named, the bad values in turn or drawn.
+    fn spoil(&mut self, good: Shape, wrong: &[u8], in_turn: bool, wanted: impl Fn(Shape) -> bool) -> Shape {
         loop {
-            self.bad_turn += limit.is_none() as usize;
-            let turn = if limit.is_none() { self.bad_turn } else { self.random.below(1000) };
-            let mut bad = good;
-            match turn % 6 {
-                which @ (0 | 1) => bad.m = BAD_M[(turn / 6 * 2 + which) % BAD_M.len()],
-                2 => bad.m = [2, 9, 129, 131, 1, MAX][turn / 6 % 6],
-                3 => bad.k = BAD_K[turn / 6 % BAD_K.len()],
-                4 => bad.b = BAD_B[turn / 6 % BAD_B.len()],
-                _ => bad.k = bad.m + 1 + self.random.below(2),
+            let mut shape = good;
+            for (n, number) in SHAPE_ORDER.into_iter().enumerate().filter(|(_, number)| wrong.contains(number)) {
+                self.bad_turns[n] += in_turn as usize;
+                let turn = if in_turn { self.bad_turns[n] } else { self.random.below(1000) };
+                match number {
+                    WRONG_M => {
+                        shape.m = BAD_M[turn % BAD_M.len()];
+                        shape.k = good.k.min(shape.m).max(1);
+                    }
+                    WRONG_K => shape.k = self.bad_k(shape.m, turn),
+                    _ => shape.b = BAD_B[turn % BAD_B.len()],
+                }
             }
-            if turn % 6 < 3 { bad.k = bad.k.min(bad.m).max(1); }
-            match self.random.below(8) {
-                0 => bad.k = self.random.one_of(&BAD_K),
-                1 => bad.b = self.random.one_of(&BAD_B),
-                _ => {}
-            }
-            let top = limit.unwrap_or(MAX);
-            if bad.judge() != FINE && bad.m <= top && bad.k <= top && bad.b <= top { return bad; }
+            let k_is_right = 1 <= shape.k && shape.k <= shape.m;
+            if !(wrong.contains(&WRONG_K) && k_is_right) && wanted(shape) { return shape; }
+        }
+    }
+
+    /// A value that no m allows, one too many for this m, or one that is right for a larger m.
+    fn bad_k(&mut self, m: usize, turn: usize) -> usize {
+        match turn % 16 {
+            n @ 0..8 => BAD_K[n],
+            8..14 if m < 127 => m + 1 + self.random.below(127 - m),
+            _ => m.saturating_add(1),
         }
     }
 
@@ -378,6 +418,14 @@ impl Maker {
         }
     }
 
+    /// A map of so many columns, three or more of them absent or at most two.
+    fn map(&mut self, columns: usize, many: bool) -> Map {
+        let first = self.random.below(columns);
+        let count = if many { 3 + self.random.below(columns - 2) } else { self.random.below(3) };
+        let absent: Vec<usize> = (first..first + count).map(|column| column % columns).collect();
+        Map::all_but(columns, &absent)
+    }
+
     fn bad_length(&mut self, bytes: &mut Vec<u8>, column: usize) {
         let (was, filler) = (bytes.len(), self.random.byte());
         let now = match self.random.below(8) {
@@ -390,7 +438,8 @@ impl Maker {
         bytes.resize(if now == was { was + 1 } else { now }, filler);
     }
 
-    /// What a call is made with, bearing exactly the faults named (and what a bad shape brings along).
+    /// What a call is made with, bearing exactly the faults named. But where the numbers are too large for a stripe
+    /// or a bench of their length, 2 or 3 comes along, and for m = 0 no k is right.
     fn scene(&mut self, faults: &[u8], pattern: &'static str, damage: Damage) -> Scene {
         let has = |n: u8| faults.contains(&n);
         let pattern = match pattern {
@@ -399,11 +448,13 @@ impl Maker {
             "any" => self.random.one_of(&PATTERNS[..8]),
             named => named,
         };
+        // Room for the faults that look at k: a place above the columns, a third column, a number above theirs.
+        let has_room = |s: Shape| (!has(9) || s.k < PLACES - 2) && (!has(4) || s.k > 0) && (!has(7) || s.k < MAX - 2);
         let good = self.shape_where(|s| {
             (pattern != "data+data" || s.k > 1)
                 && (damage != Damage::Lanes || s.b > 1)
                 && (damage != Damage::Imaginary || s.k < s.m)
-                && (!has(9) || s.k + 2 < PLACES)
+                && has_room(s)
         });
         let absent = self.absent(good, pattern);
         let mut map = Map::all_but(good.columns(), &absent);
@@ -423,20 +474,23 @@ impl Maker {
                 _ => stripe[byte] = self.random.byte(),
             }
         }
-        if has(9) {
-            let drawn = good.columns() + self.random.below(PLACES - good.columns());
-            map.0[self.random.one_of(&[good.columns(), PLACES - 1, drawn])] = true;
-        }
         let mut bench = self.random.bytes(good.bench_length());
-        let shape = if has(1) { self.bad_shape(good, None) } else { good };
+        // A number that is the only fault takes its bad values in turn, so that all of them are met.
+        let shape = self.spoil(good, faults, faults.len() == 1, has_room);
+        let columns = shape.k.saturating_add(2).min(PLACES);
+        if shape.k != good.k { map = self.map(columns, has(4)); }
+        if has(9) {
+            let drawn = columns + self.random.below(PLACES - columns);
+            map.0[self.random.one_of(&[columns, PLACES - 1, drawn])] = true;
+        }
         // Where a bad shape still has small products, the lengths follow it.
         let column = shape.m.wrapping_sub(1).wrapping_mul(shape.b);
         let length = shape.k.wrapping_add(2).wrapping_mul(column);
-        if has(1) && length <= 30_000 { stripe.resize(length, 7); }
-        if has(1) && column <= 10_000 { bench.resize(2 * column, 7); }
+        if shape != good && length <= 30_000 { stripe.resize(length, 7); }
+        if shape != good && column <= 10_000 { bench.resize(2 * column, 7); }
         if has(2) { self.bad_length(&mut stripe, good.column_length()); }
         if has(3) { self.bad_length(&mut bench, good.column_length()); }
-        Scene { made_for: good, shape, map, stripe, bench }
+        Scene { shape, map, stripe, bench }
     }
 
     fn make(&mut self, recipe: &Recipe) -> Case {
@@ -445,7 +499,7 @@ impl Maker {
             Recipe::Plain(operation, faults, damage) => {
                 let s = self.scene(faults, "none", *damage);
                 let request = operation(s.shape, s.stripe);
-                let expected = match (first(&[1, 2], faults), damage, request.word()) {
+                let expected = match (first(&PLAIN_ORDER, faults), damage, request.word()) {
                     (FINE, Damage::Lanes | Damage::Imaginary, "mend") => Some(NOT_MENDABLE),
                     (FINE, Damage::TwoColumns | Damage::Garbage, "mend") => None,
                     (number, _, _) => Some(number),
@@ -464,13 +518,14 @@ impl Maker {
             }
             Recipe::Show(faults, pattern) => {
                 let s = self.scene(faults, pattern, Damage::None);
-                let (columns, absent) = (s.made_for.columns(), s.map.absent(s.made_for));
+                let columns = s.shape.k.saturating_add(2);
+                let absent: Vec<usize> = (0..columns.min(PLACES)).filter(|&place| !s.map.0[place]).collect();
                 let column = if faults.contains(&7) {
-                    self.random.one_of(&[columns, columns, columns + 1, 128.max(columns), 129, 256, MAX])
+                    self.random.one_of(&[0, 0, columns + 1, 128, 129, 256, MAX]).max(columns)
                 } else if !absent.is_empty() && self.random.below(2) == 0 {
                     self.random.one_of(&absent)
                 } else {
-                    self.random.below(columns)
+                    self.random.below(columns.min(PLACES))
                 };
                 let number = first(&SHOW_ORDER, faults);
                 let expected = if number == FINE && absent.len() > 2 { TOO_MANY_ABSENT } else { number };
@@ -519,10 +574,9 @@ impl Maker {
             self.damage(shape, &mut stripe, damage);
         }
         let image = self.draw(shape, &absent, &stripe, flaws);
-        let number = match flaws {
-            [] => FINE,
-            _ if flaws.contains(&Flaw::Short) || flaws.contains(&Flaw::Fourth) => BAD_IMAGE,
-            _ if flaws.contains(&Flaw::Shape) => BAD_SHAPE,
+        let number = match wrong_numbers(flaws).first() {
+            _ if flaws.is_empty() => FINE,
+            Some(&number) if !flaws.contains(&Flaw::Short) && !flaws.contains(&Flaw::Fourth) => number,
             _ => BAD_IMAGE,
         };
         (image, number, shape)
@@ -531,7 +585,8 @@ impl Maker {
     fn draw(&mut self, shape: Shape, absent: &[usize], stripe: &[u8], flaws: &[Flaw]) -> Vec<u8> {
         let columns = shape.columns();
         let start = 8 + 8 * columns;
-        let mut header = [shape.m, shape.k, shape.b, 0];
+        let Shape { m, k, b } = self.spoil(shape, &wrong_numbers(flaws), false, |s| s.m.max(s.k).max(s.b) < 65_536);
+        let mut header = [m, k, b, 0];
         let mut entries = Vec::new();
         let mut body = Vec::new();
         for column in 0..columns {
@@ -548,10 +603,6 @@ impl Maker {
             let entry = &mut entries[one];
             match flaw {
                 Flaw::Fourth => header[3] = self.random.one_of(&[1, 255, 256, 65_535]),
-                Flaw::Shape => {
-                    let bad = self.bad_shape(shape, Some(65_535));
-                    header = [bad.m, bad.k, bad.b, header[3]];
-                }
                 Flaw::Offset => entry[3] = self.random.one_of(&[entry[3] + 1, entry[3] ^ 256, entry[3] ^ 1 << 24]),
                 Flaw::State => entry[1] = self.random.one_of(&[2, 2, 3, 128, 129, 254, 255]),
                 Flaw::Flip => entry[1] ^= 1,
@@ -617,25 +668,25 @@ impl Maker {
     }
 
     fn shelf_image(&mut self, turn: usize) -> (Vec<u8>, Option<u8>) {
-        match turn % 60 {
+        match turn % IMAGE_KINDS {
             n @ 0..9 => self.shelf_case(&[], PATTERNS[n], Damage::None),
             9 => self.shelf_case(&[], "all", Damage::None),
             n @ 10..14 => self.shelf_case(&[], PATTERNS[n - 10], Damage::OneColumn),
-            n @ 14..28 => self.shelf_case(&[FLAWS[n - 14]], "any", Damage::None),
-            n @ 28..42 => self.shelf_case(&[Flaw::Shape, FLAWS[n - 28]], "any", Damage::None),
-            n @ 42..46 => self.shelf_case(&[], PATTERNS[n - 38], Damage::Garbage),
-            46 => (self.sized(INPUT_LIMIT, Damage::None), Some(FINE)),
-            47 => (self.sized(INPUT_LIMIT, Damage::OneColumn), None),
-            48 => ([self.sized(INPUT_LIMIT, Damage::None), vec![0]].concat(), Some(INPUT_TOO_LONG)),
-            49 => (self.sized(INPUT_LIMIT + 2, Damage::None), Some(INPUT_TOO_LONG)),
-            50 => ([self.sized(INPUT_LIMIT - 2, Damage::None), vec![0, 0]].concat(), Some(BAD_IMAGE)),
-            51 => (self.sized(INPUT_LIMIT - 2, Damage::None), Some(FINE)),
-            52 => (vec![0; INPUT_LIMIT], Some(BAD_SHAPE)),
-            53 => (vec![0; INPUT_LIMIT + 1], Some(INPUT_TOO_LONG)),
-            54 => (self.random.bytes(INPUT_LIMIT + 1), Some(INPUT_TOO_LONG)),
-            55 => (self.random.bytes(2 * INPUT_LIMIT), Some(INPUT_TOO_LONG)),
-            56 => (Vec::new(), Some(BAD_IMAGE)),
-            57 => (vec![255; INPUT_LIMIT], Some(BAD_IMAGE)),
+            n @ 14..30 => self.shelf_case(&[FLAWS[n - 14]], "any", Damage::None),
+            n @ 30..73 => self.shelf_case(&wrong_and_more()[n - 30], "any", Damage::None),
+            n @ 73..77 => self.shelf_case(&[], PATTERNS[n - 69], Damage::Garbage),
+            77 => (self.sized(INPUT_LIMIT, Damage::None), Some(FINE)),
+            78 => (self.sized(INPUT_LIMIT, Damage::OneColumn), None),
+            79 => ([self.sized(INPUT_LIMIT, Damage::None), vec![0]].concat(), Some(INPUT_TOO_LONG)),
+            80 => (self.sized(INPUT_LIMIT + 2, Damage::None), Some(INPUT_TOO_LONG)),
+            81 => ([self.sized(INPUT_LIMIT - 2, Damage::None), vec![0, 0]].concat(), Some(BAD_IMAGE)),
+            82 => (self.sized(INPUT_LIMIT - 2, Damage::None), Some(FINE)),
+            83 => (vec![0; INPUT_LIMIT], Some(WRONG_M)),
+            84 => (vec![0; INPUT_LIMIT + 1], Some(INPUT_TOO_LONG)),
+            85 => (self.random.bytes(INPUT_LIMIT + 1), Some(INPUT_TOO_LONG)),
+            86 => (self.random.bytes(2 * INPUT_LIMIT), Some(INPUT_TOO_LONG)),
+            87 => (Vec::new(), Some(BAD_IMAGE)),
+            88 => (vec![255; INPUT_LIMIT], Some(BAD_IMAGE)),
             _ => {
                 let flaws = self.random.two(FLAWS.len()).map(|n| FLAWS[n]);
                 (self.image(&flaws, "any", Damage::None).0, None)

@@ -10,12 +10,19 @@ pub struct Contents { pub number: u8, pub shape: Shape, pub map: Map, pub fault:
 
 fn little_endian(bytes: &[u8]) -> usize { bytes.iter().rev().fold(0, |value, &byte| value * 256 + byte as usize) }
 
+/// The four numbers at the start of an image, if it is long enough to have them.
+pub fn header(image: &[u8]) -> Option<[usize; 4]> {
+    (image.len() >= 8).then(|| [0, 2, 4, 6].map(|at| little_endian(&image[at..at + 2])))
+}
+
 fn judge(image: &[u8]) -> Result<(Shape, Map), (u8, &'static str)> {
-    if image.len() < 8 { return Err((BAD_IMAGE, "short")); }
-    let number = |n: usize| little_endian(&image[2 * n..2 * n + 2]);
-    if number(3) != 0 { return Err((BAD_IMAGE, "fourth")); }
-    let shape = Shape { m: number(0), k: number(1), b: number(2) };
-    if shape.judge() != FINE { return Err((BAD_SHAPE, "shape")); }
+    let Some([m, k, b, fourth]) = header(image) else { return Err((BAD_IMAGE, "short")) };
+    if fourth != 0 { return Err((BAD_IMAGE, "fourth")); }
+    let shape = Shape { m, k, b };
+    match shape.judge() {
+        FINE => {}
+        number => return Err((number, match number { WRONG_M => "m", WRONG_K => "k", _ => "b" })),
+    }
     let mut body = 8 + 8 * shape.columns();
     if image.len() < body { return Err((BAD_IMAGE, "contents-cut")); }
     let mut map = Map::new();

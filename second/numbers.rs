@@ -1,4 +1,4 @@
-//! The numbers of the document, as requests with the answers the document gives.
+//! The numbers of the document, as requests with the answers the document gives, and more about wrong shapes.
 
 use crate::code::*;
 use crate::image::shelf;
@@ -12,6 +12,7 @@ pub struct Number {
     pub expected: String,
 }
 
+const MAX: usize = usize::MAX;
 const C1: &str = "010204081020152a391e";
 const C1_05: &str = "010205081020152a391e";
 const C3: &str = "00000000000000010100010100000001010101000001000101010001";
@@ -33,6 +34,18 @@ fn present(places: &[usize]) -> String {
 fn ask(name: &'static str, request: String, expected: String) -> Number {
     let parsed = Request::parse(&request).expect("the request is written rightly");
     Number { name, word: parsed.word(), computed: parsed.answer(), request: Some(request), expected }
+}
+
+/// What `shelf` prints, with its line ends as `|`.
+fn printed(name: &'static str, image: &str, expected: String) -> Number {
+    let image = bytes_of(image).expect("the bytes are written rightly");
+    Number { name, word: "shelf", request: None, computed: shelf(&image).replace('\n', "|"), expected }
+}
+
+/// An image that ends after its header, and is refused.
+fn header_only(name: &'static str, image: &str, number: u8) -> [Number; 2] {
+    let contents = format!("{number} 0 0 0 {}", present(&[]));
+    [ask(name, format!("contents {image}"), contents), printed(name, image, format!("answer {number}|"))]
 }
 
 fn zeros(count: usize) -> String { "00".repeat(count) }
@@ -76,17 +89,34 @@ pub fn all() -> Vec<Number> {
         ("m=129", [129, 1, 1], 1),
         ("m=131", [131, 1, 1], 1),
         ("m=127", [127, 1, 1], 0),
-        ("k=0", [3, 0, 1], 1),
-        ("k=4", [3, 4, 1], 1),
+        ("k=0", [3, 0, 1], 12),
+        ("k=4", [3, 4, 1], 12),
         ("k=3", [3, 3, 1], 0),
-        ("b=0", [3, 1, 0], 1),
-        ("b=4097", [3, 1, 4097], 1),
+        ("b=0", [3, 1, 0], 13),
+        ("b=4097", [3, 1, 4097], 13),
         ("b=4096", [3, 1, 4096], 0),
+        ("m=9,k=0", [9, 0, 1], 1),
+        ("m=9,b=0", [9, 1, 0], 1),
+        ("m=9,k=0,b=0", [9, 0, 0], 1),
+        ("k=4,b=0", [3, 4, 0], 12),
     ];
     for (name, [m, k, b], expected) in shapes {
         let length = (k + 2) * (m - 1) * b;
         let stripe = if length == 0 { s("-") } else { zeros(length) };
         list.push(ask(name, format!("check {m} {k} {b} {stripe}"), format!("{expected} 0 0")));
+    }
+    // Too large for a stripe of their length.
+    let large = [
+        ("m=65539", [65_539, 1, 1], 1),
+        ("k=65537", [3, 65_537, 1], 12),
+        ("b=65537", [3, 1, 65_537], 13),
+        ("m=max", [MAX, 1, 1], 1),
+        ("k=max", [3, MAX, 1], 12),
+        ("b=max", [3, 1, MAX], 13),
+        ("all=max", [MAX, MAX, MAX], 1),
+    ];
+    for (name, [m, k, b], expected) in large {
+        list.push(ask(name, format!("check {m} {k} {b} -"), format!("{expected} 0 0")));
     }
     let map = present(&[0, 1, 2, 3, 4]);
     let stray = present(&[0, 1, 2, 3, 4, 5]);
@@ -102,7 +132,12 @@ pub fn all() -> Vec<Number> {
         ask("length=11", format!("encode 3 3 1 {C1}00"), format!("2 {C1}00")),
         ask("place=5", format!("restore 3 3 1 {stray} {C1} a1a2a3a4"), s("9 0 129 129 a1a2a3a4")),
         ask("place=5", format!("show 3 3 1 {stray} {C1} a1a2a3a4 0"), s("9 0 0 0")),
-        ask("shape+bench", format!("restore 2 3 1 {map} {C1} a1"), s("1 0 129 129 a1")),
+        ask("m+bench", format!("restore 2 3 1 {map} {C1} a1"), s("1 0 129 129 a1")),
+        ask("k+bench", format!("restore 3 4 1 {map} {C1} a1"), s("12 0 129 129 a1")),
+        ask("b+bench", format!("restore 3 3 0 {map} {C1} a1"), s("13 0 129 129 a1")),
+        ask("k+length", format!("encode 3 4 1 {C1}"), format!("12 {C1}")),
+        ask("b+length", format!("mend 3 3 4097 {C1}"), format!("13 129 {C1}")),
+        ask("k+column", format!("show 3 4 1 {stray} {C1} a1a2a3a4 9"), s("12 0 0 0")),
         ask("lanes", format!("mend 3 3 2 {lanes}"), format!("6 129 {lanes}")),
         ask("08->09", s("check 3 3 1 010204091020152a391e"), s("0 1 2")),
         ask("C5-image", format!("contents {C5_IMAGE}"), format!("0 3 3 1 {cols_134}")),
@@ -111,13 +146,17 @@ pub fn all() -> Vec<Number> {
             format!("read {C5_IMAGE} b0b1b2b3b4b5b6b7b8b9"),
             format!("0 3 3 1 {cols_134} b0b10408b4b5152a391e"),
         ),
-        Number {
-            name: "C5-image",
-            word: "shelf",
-            request: None,
-            computed: shelf(&bytes(C5_IMAGE)).replace('\n', "|"),
-            expected: s(C5_TEXT),
-        },
+        printed("C5-image", C5_IMAGE, s(C5_TEXT)),
     ]);
+    let headers = [
+        ("image,m=2", "0200030001000000", 1),
+        ("image,k=4", "0300040001000000", 12),
+        ("image,b=0", "0300030000000000", 13),
+        ("image,m=2,k=0", "0200000001000000", 1),
+        ("image,k=4,b=0", "0300040000000000", 12),
+        ("image,b=0,fourth", "0300030000000100", 8),
+        ("image,k=3", "0300030001000000", 8),
+    ];
+    list.extend(headers.into_iter().flat_map(|(name, image, number)| header_only(name, image, number)));
     list
 }

@@ -1,7 +1,7 @@
 //! Tests: the document's numbers, exhaustive searches on small stripes, and the generator's own knowledge.
 
 use crate::code::*;
-use crate::generate::Maker;
+use crate::generate::{IMAGE_KINDS, Maker};
 use crate::image;
 use crate::numbers;
 use crate::requests::{Request, bytes_of};
@@ -29,9 +29,28 @@ fn document(test: &mut Test) {
     for number in numbers::all() {
         test.same(|| format!("{} {}", number.name, number.word), number.computed, number.expected);
     }
+}
+
+/// The shape check against the three rules as they are written down.
+fn shapes(test: &mut Test) {
     for m in 0..70_000 {
-        let accepted = Shape { m, k: 1, b: 1 }.judge() == FINE;
-        test.same(|| format!("m={m}"), accepted, DOCUMENT_PRIMES.contains(&m));
+        let wanted = if DOCUMENT_PRIMES.contains(&m) { 0 } else { 1 };
+        test.same(|| format!("m={m}"), Shape { m, k: 1, b: 1 }.judge(), wanted);
+    }
+    for m in (0..=300).chain([usize::MAX]) {
+        for k in (0..=300).chain([usize::MAX]) {
+            for b in [0, 1, 2, 4095, 4096, 4097, 65_536, usize::MAX] {
+                let right = (DOCUMENT_PRIMES.contains(&m), (1..=m).contains(&k), (1..=4096).contains(&b));
+                let wanted = match right {
+                    (false, _, _) => 1,
+                    (true, false, _) => 12,
+                    (true, true, false) => 13,
+                    (true, true, true) => 0,
+                };
+                let shape = Shape { m, k, b };
+                test.same(|| format!("shape {shape}"), shape.judge(), wanted);
+            }
+        }
     }
 }
 
@@ -183,7 +202,7 @@ fn lanes(test: &mut Test, shape: Shape, stripe: &[u8]) {
 
 fn generated(test: &mut Test) {
     for seed in 1..=3 {
-        for case in Maker::new(seed).cases(700) {
+        for case in Maker::new(seed).cases(1100) {
             let line = case.request.to_string();
             let request = Request::parse(&line).expect("a generated line can be read");
             test.same(|| "text".to_string(), &request.to_string(), &line);
@@ -199,12 +218,14 @@ fn generated(test: &mut Test) {
                 lanes(test, *shape, stripe);
             }
         }
-        for (turn, (bytes, expected)) in Maker::new(seed).shelf_images(120).enumerate() {
+        for (turn, (bytes, expected)) in Maker::new(seed).shelf_images(2 * IMAGE_KINDS).enumerate() {
             let text = image::shelf(&bytes);
             let number = text.trim_end().rsplit(' ').next().and_then(|n| n.parse().ok()).expect("a number");
             test.same(|| format!("seed {seed} image {turn}"), number, expected.unwrap_or(number));
             let columns: Vec<&str> = text.lines().filter_map(|line| line.split(' ').nth(2)).skip(1).collect();
             test.same(|| format!("seed {seed} image {turn} lines"), !columns.is_empty(), number == FINE);
+            let alone = text == format!("answer {number}\n");
+            test.same(|| format!("seed {seed} image {turn} answer"), alone, [1, 8, 10, 12, 13].contains(&number));
             if number == FINE {
                 let stripe = bytes_of(&columns.concat()).expect("hex");
                 let shape = image::contents(&bytes).shape;
@@ -233,8 +254,8 @@ fn images(test: &mut Test) {
                 // m, k and b: no other good shape fits these contents.
                 0..6 => {
                     let half = |at: usize| other[at] as usize + 256 * other[at + 1] as usize;
-                    let good = Shape { m: half(0), k: half(2), b: half(4) }.judge() == FINE;
-                    if good { BAD_IMAGE } else { BAD_SHAPE }
+                    let number = Shape { m: half(0), k: half(2), b: half(4) }.judge();
+                    if number == FINE { BAD_IMAGE } else { number }
                 }
                 6..48 => BAD_IMAGE,
                 _ => FINE,
@@ -249,8 +270,14 @@ fn images(test: &mut Test) {
 }
 
 pub fn run(out: &mut impl Write) -> io::Result<bool> {
-    let groups: [(&str, fn(&mut Test)); 5] =
-        [("document", document), ("searches", searches), ("ranks", ranks), ("images", images), ("generated", generated)];
+    let groups: [(&str, fn(&mut Test)); 6] = [
+        ("document", document),
+        ("shapes", shapes),
+        ("searches", searches),
+        ("ranks", ranks),
+        ("images", images),
+        ("generated", generated),
+    ];
     let mut good = true;
     for (name, group) in groups {
         let mut test = Test::default();

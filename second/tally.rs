@@ -1,37 +1,54 @@
 //! Counts what a list of requests covers.
 
 use crate::code::*;
-use crate::generate::{AT_MOST_ONE, BAD_B, BAD_K, BAD_M, PATTERNS, RESTORE_PAIRS, SHOW_PAIRS, SIZES};
+use crate::generate::{
+    AT_MOST_ONE, BAD_B, BAD_K, BAD_M, HEADER_ORDER, PATTERNS, PLAIN_ORDER, RESTORE_ORDER, SHOW_ORDER, SIZES, together,
+};
 use crate::image;
 use crate::requests::Request;
 use std::collections::BTreeMap;
 use std::io::{self, BufRead, Write};
 
 const ANSWERS: [(&str, &[u8]); 8] = [
-    ("encode", &[0, 1, 2]),
-    ("check", &[0, 1, 2]),
-    ("restore", &[0, 1, 2, 3, 4, 5, 9]),
-    ("mend", &[0, 1, 2, 6]),
-    ("show", &[0, 1, 2, 3, 4, 7, 9]),
+    ("encode", &[0, 1, 2, 12, 13]),
+    ("check", &[0, 1, 2, 12, 13]),
+    ("restore", &[0, 1, 2, 3, 4, 5, 9, 12, 13]),
+    ("mend", &[0, 1, 2, 6, 12, 13]),
+    ("show", &[0, 1, 2, 3, 4, 7, 9, 12, 13]),
     ("mark", &[0, 7]),
-    ("read", &[0, 1, 2, 8]),
-    ("contents", &[0, 1, 8]),
+    ("read", &[0, 1, 2, 8, 12, 13]),
+    ("contents", &[0, 1, 8, 12, 13]),
 ];
 
-const SINGLE: [&str; 24] = [
-    "encode pair 1+2", "check pair 1+2", "mend pair 1+2",
+/// The orders in which faults met together are judged.
+const ORDERS: [(&str, &[u8]); 7] = [
+    ("encode", &PLAIN_ORDER),
+    ("check", &PLAIN_ORDER),
+    ("mend", &PLAIN_ORDER),
+    ("restore", &RESTORE_ORDER),
+    ("show", &SHOW_ORDER),
+    ("read", &HEADER_ORDER),
+    ("contents", &HEADER_ORDER),
+];
+
+const SINGLE: [&str; 22] = [
     "check intact", "check rows-only", "check diagonals-only", "check both",
     "restore stale",
     "mend intact", "mend data", "mend H", "mend D", "mend 6 imaginary", "mend 6 lanes",
     "show stripe", "show first-half", "show second-half",
     "mark changed", "mark same",
-    "k=1", "k=m", "1<k<m", "refused k=m+1",
+    "k=1", "k=m", "1<k<m", "refused k=m+1", "refused m+1<k<128",
     "contents far",
 ];
 
-const IMAGE_FAULTS: [&str; 11] = [
-    "none", "short", "fourth", "shape", "contents-cut", "column", "state", "pad", "offset", "body-cut", "trailing",
+const IMAGE_FAULTS: [&str; 13] = [
+    "none", "short", "fourth", "m", "k", "b", "contents-cut", "column", "state", "pad", "offset", "body-cut", "trailing",
 ];
+
+fn faults_cell(word: &str, faults: &[u8]) -> String {
+    let numbers: Vec<String> = faults.iter().map(u8::to_string).collect();
+    format!("{word} faults {}", numbers.join("+"))
+}
 
 fn expected_cells() -> Vec<String> {
     let mut cells: Vec<String> = Vec::new();
@@ -40,8 +57,9 @@ fn expected_cells() -> Vec<String> {
     }
     cells.extend(PATTERNS.iter().map(|name| format!("pattern {name}")));
     cells.extend(AT_MOST_ONE.iter().map(|name| format!("pattern {name} refused 5")));
-    cells.extend(RESTORE_PAIRS.iter().map(|[x, y]| format!("restore pair {x}+{y}")));
-    cells.extend(SHOW_PAIRS.iter().map(|[x, y]| format!("show pair {x}+{y}")));
+    for (word, order) in ORDERS {
+        cells.extend(together(order).iter().map(|faults| faults_cell(word, faults)));
+    }
     cells.extend(SINGLE.iter().map(|name| name.to_string()));
     cells.extend(BAD_M.iter().map(|m| format!("refused m={m}")));
     cells.extend(BAD_K.iter().map(|k| format!("refused k={k}")));
@@ -69,6 +87,15 @@ fn pattern(shape: Shape, absent: &[usize]) -> &'static str {
     }
 }
 
+/// The numbers of a shape, each judged for itself.
+fn shape_faults(Shape { m, k, b }: Shape) -> [(u8, bool); 3] {
+    [(WRONG_M, m > 127 || !is_odd_prime(m)), (WRONG_K, k == 0 || k > m), (WRONG_B, b == 0 || b > 4096)]
+}
+
+fn holding(faults: impl IntoIterator<Item = (u8, bool)>) -> Vec<u8> {
+    faults.into_iter().filter(|(_, holds)| *holds).map(|(number, _)| number).collect()
+}
+
 /// Every fault of a call with a map, each judged for itself.
 fn faults(shape: Shape, map: &Map, stripe: &[u8], bench: &[u8], column: usize) -> Vec<u8> {
     let length = shape.m.wrapping_sub(1).wrapping_mul(shape.b);
@@ -78,8 +105,7 @@ fn faults(shape: Shape, map: &Map, stripe: &[u8], bench: &[u8], column: usize) -
         let clean = Map::all_but(columns, &map.absent(shape));
         restore(shape, &clean, stripe, &mut vec![0; shape.bench_length()]).number == NONE_FITS
     };
-    let all = [
-        (BAD_SHAPE, shape.judge() != FINE),
+    let others = [
         (BAD_STRIPE, stripe.len() != columns.wrapping_mul(length)),
         (BAD_BENCH, bench.len() != length.wrapping_mul(2)),
         (STRAY_PLACE, outside.iter().any(|&present| present)),
@@ -87,7 +113,7 @@ fn faults(shape: Shape, map: &Map, stripe: &[u8], bench: &[u8], column: usize) -
         (TOO_MANY_ABSENT, inside.iter().filter(|&&present| !present).count() > 2),
         (NONE_FITS, shape.judge() == FINE && none_fits()),
     ];
-    all.iter().filter(|(_, holds)| *holds).map(|(number, _)| *number).collect()
+    holding(shape_faults(shape).into_iter().chain(others))
 }
 
 struct Tally(BTreeMap<String, usize>);
@@ -95,34 +121,38 @@ struct Tally(BTreeMap<String, usize>);
 impl Tally {
     fn add(&mut self, name: impl Into<String>) { *self.0.entry(name.into()).or_insert(0) += 1; }
 
-    fn shape(&mut self, Shape { m, k, b }: Shape) {
-        if (Shape { m, k, b }).judge() == FINE {
-            self.add(if k == 1 { "k=1" } else if k == m { "k=m" } else { "1<k<m" });
-            self.add(format!("m={m}"));
-            self.add(format!("b={b}"));
-        } else if m > 127 || !is_odd_prime(m) {
-            self.add(format!("refused m={m}"));
-        } else if k == m + 1 {
-            self.add("refused k=m+1");
-        } else if k == 0 || k > m {
-            self.add(format!("refused k={k}"));
-        } else {
-            self.add(format!("refused b={b}"));
+    fn shape(&mut self, shape: Shape) {
+        let Shape { m, k, b } = shape;
+        match shape.judge() {
+            FINE => {
+                self.add(if k == 1 { "k=1" } else if k == m { "k=m" } else { "1<k<m" });
+                self.add(format!("m={m}"));
+                self.add(format!("b={b}"));
+            }
+            WRONG_M => self.add(format!("refused m={m}")),
+            WRONG_K if k == m + 1 => self.add("refused k=m+1"),
+            WRONG_K if m < k && k < 128 => self.add("refused m+1<k<128"),
+            WRONG_K => self.add(format!("refused k={k}")),
+            _ => self.add(format!("refused b={b}")),
         }
     }
 
     fn plain(&mut self, word: &str, shape: Shape, stripe: &[u8]) {
         self.shape(shape);
-        if faults(shape, &Map::new(), stripe, &[], 0).starts_with(&[1, 2]) {
-            self.add(format!("{word} pair 1+2"));
+        self.faults(word, &PLAIN_ORDER, &faults(shape, &Map::new(), stripe, &[], 0));
+    }
+
+    fn faults(&mut self, word: &str, order: &[u8], found: &[u8]) {
+        for faults in together(order) {
+            if faults.iter().all(|number| found.contains(number)) { self.add(faults_cell(word, &faults)); }
         }
     }
 
-    fn pairs(&mut self, word: &str, pairs: &[[u8; 2]], found: &[u8]) {
-        for [x, y] in pairs {
-            if found.contains(x) && found.contains(y) {
-                self.add(format!("{word} pair {x}+{y}"));
-            }
+    fn image(&mut self, word: &str, bytes: &[u8]) {
+        self.add(format!("{word} fault {}", image::contents(bytes).fault));
+        if let Some([m, k, b, fourth]) = image::header(bytes) {
+            let found = shape_faults(Shape { m, k, b }).into_iter().chain([(BAD_IMAGE, fourth != 0)]);
+            self.faults(word, &HEADER_ORDER, &holding(found));
         }
     }
 
@@ -138,7 +168,7 @@ impl Tally {
 
     fn restored(&mut self, shape: Shape, map: &Map, stripe: &[u8], bench: &[u8], number: u8) {
         self.shape(shape);
-        self.pairs("restore", &RESTORE_PAIRS, &faults(shape, map, stripe, bench, 0));
+        self.faults("restore", &RESTORE_ORDER, &faults(shape, map, stripe, bench, 0));
         if ![FINE, TOO_MANY_ABSENT, NONE_FITS].contains(&number) { return; }
         let absent = map.absent(shape);
         let refused = if number == NONE_FITS { " refused 5" } else { "" };
@@ -189,7 +219,7 @@ impl Tally {
             Request::Restore(shape, map, stripe, bench) => self.restored(*shape, map, stripe, bench, number),
             Request::Show(shape, map, stripe, bench, column) => {
                 self.shape(*shape);
-                self.pairs("show", &SHOW_PAIRS, &faults(*shape, map, stripe, bench, *column));
+                self.faults("show", &SHOW_ORDER, &faults(*shape, map, stripe, bench, *column));
                 match answer[..] {
                     [0, 0, ..] => self.add("show stripe"),
                     [0, 1, 0, _] => self.add("show first-half"),
@@ -201,9 +231,9 @@ impl Tally {
                 let same = mark(*map, *place, *state).map == *map;
                 self.add(if same { "mark same" } else { "mark changed" });
             }
-            Request::Read(bytes, _) => self.add(format!("read fault {}", image::contents(bytes).fault)),
+            Request::Read(bytes, _) => self.image("read", bytes),
             Request::Contents(bytes) => {
-                self.add(format!("contents fault {}", image::contents(bytes).fault));
+                self.image("contents", bytes);
                 if number == FINE && bytes.len() > 65_536 { self.add("contents far"); }
             }
         }

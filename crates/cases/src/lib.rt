@@ -1,10 +1,13 @@
-// The document's cases C1 to C11, as lines of text; each function answers the place after its lines, which have a greatest length. C1 is the stripe of m = 3,
+// The document's cases C1 to C11, and its shapes, as lines of text; each function answers the place after its lines. C1 is the stripe of m = 3,
 // k = 3, b = 1 with the data 01 02, 04 08, 10 20.
+mod shapes;
+
 use evenodd::Map;
 use say::check_line;
 use say::encode_line;
 use say::mend_line;
 use say::restore_line;
+pub use shapes::shape_lines;
 use words::say_bytes;
 use words::say_word;
 ghost use mathlib.Core.Path.{_≡_};

@@ -1,7 +1,7 @@
 -- Each promise determines answer and buffers: the proofs of the statements in specs/Determined.
 -- A list of rules gives one verdict. Where it passes, the answer speaks of valid stripes, of which the distance of three leaves one.
 use mathlib.Core.Path.{_≡_, refl, sym, ap, ap₂, _∙_}
-use mathlib.Core.Logic.{_≢_, by-cases, _↔_}
+use mathlib.Core.Logic.{_≢_, inl, inr, by-cases, _↔_}
 use mathlib.Core.Bool.{false, true≢false}
 use mathlib.Core.List.{List, [], _∷_}
 use Prim.Native.Nat.{ℕ, _+_, _<_, _≤_}
@@ -14,7 +14,7 @@ use Rattle.parity.proofs.Columns.{same-column, column-same}
 use Rattle.parity.proofs.Stripes.{stripe-determined}
 use Rattle.parity.proofs.Theorems.{frame, served, at-most-one, absent-unread, one-wrong, near, few-differ}
 use Rattle.inputs.specs.Rules.{tooManyAbsent, contradicted, unmendable, stripeRules, lentRules, gapRules, mendRules, restoreRules, showRules}
-use Rattle.inputs.proofs.Rules.{passes-not, refuse-one, gives-one, passed-first, gives-passed, Alike, gives-alike}
+use Rattle.inputs.proofs.Rules.{passes-not, refuse-one, gives-one, passed-first, gives-passed, gives-instead}
 use Rattle.inputs.proofs.Stripe.{stripe-given}
 use Rattle.evenodd.specs.declared.checks.Checked.the-variants as checked
 use Rattle.evenodd.specs.declared.encodes.Encoded.the-variants as encoded
@@ -120,33 +120,18 @@ restores-one m k b map s bench x y (restored.Refused r) (restored.Refused r′) 
 
 pub restores-unread : RestoresUnread
 unfolding RestoresUnread AbsentUnread
-restores-unread m k b map s other bench x r p e a = record { told = gives-alike (restoreRules m k b map s (length bench)) (restoreRules m k b map other (length bench)) _ same (p .told); restored = λ e. again (p .restored e); kept = p .kept }
+restores-unread m k b map s other bench x r p e a = record {
+  told = gives-instead (gapRules m k b map (length other) (length bench)) (contradicted m k b map s ∷ []) (contradicted m k b map other ∷ []) _ instead (rw (← e) at (p .told));
+  restored = λ e. again (p .restored e);
+  kept = p .kept;
+}
   where
     agrees : (v : List ℕ) → Agrees m k b (map .places) s v ↔ Agrees m k b (map .places) other v
     agrees = absent-unread m k b (map .places) s other a
 
-    same : Alike (restoreRules m k b map s (length bench)) (restoreRules m k b map other (length bench))
-    same = (
-      (λ c. c, λ c. c),
-      refl,
-      (
-        (λ c d. c (sym e ∙ d), λ c d. c (e ∙ d)),
-        refl,
-        (
-          (λ c. c, λ c. c),
-          refl,
-          (
-            (λ c. c, λ c. c),
-            refl,
-            (
-              (λ c. c, λ c. c),
-              refl,
-              ((λ c v vv av. c v vv (agrees v .1 av), λ c v vv av. c v vv (agrees v .0 av)), refl, tt),
-            ),
-          ),
-        ),
-      ),
-    )
+    instead : {v : Verdict} → Gives (contradicted m k b map s ∷ []) v → Gives (contradicted m k b map other ∷ []) v
+    instead (inl c) = inl (λ v vv av. c .0 v vv (agrees v .1 av), c .1)
+    instead (inr c) = inr (λ d. c .0 (λ v vv av. d v vv (agrees v .0 av)), c .1)
 
     again : {n f g : ℕ} → RestoredFrom m k b (map .places) s bench x n f g → RestoredFrom m k b (map .places) other bench x n f g
     again u = record {

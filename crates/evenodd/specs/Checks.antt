@@ -1,7 +1,7 @@
 -- What check answers. It reads only.
 --   verdictOf, rowsOf, diagonalsOf   the verdict of an answer, and its two counts: 0 where it is refused
 --   Counted    the counts are those of the rows and of the numbers whose equation breaks, and the stripe is called intact exactly when it is
---   Checks     refused: 1, 2; passed: `Counted`
+--   Checks     refused by `stripeRules`; passed: `Counted`
 --   CountsSay  what an answer says of two counts
 use mathlib.Core.Path.{_≡_}
 use mathlib.Core.Logic.{_↔_}

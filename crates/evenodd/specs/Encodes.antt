@@ -1,6 +1,6 @@
 -- What encode answers and leaves.
 --   verdictOf   the verdict of an answer
---   Encodes    refused by 1 or 2, nothing changed; done, the stripe is valid and its data columns are as they were
+--   Encodes    refused by `stripeRules`, nothing changed; done, the stripe is valid and its data columns are as they were
 use mathlib.Core.Path.{_≡_}
 use mathlib.Core.Bool.{false}
 use mathlib.Core.List.{List}

@@ -1,6 +1,6 @@
 -- What mend answers and leaves.
 --   verdictOf, columnOf   the verdict of an answer, and the column that it names: 129 for none
---   Mends         refused: 1, 2, 6; passed: the stripe is now a valid one, and differed from it in exactly the column that is named. Where none is
+--   Mends         refused by `mendRules`; passed: the stripe is now a valid one, and differed from it in exactly the column that is named. Where none is
 --                 named, the stripe being intact or refused, nothing is written.
 --   mendedBy      the answer that each suspect brings
 use mathlib.Core.Path.{_≡_}

@@ -2,7 +2,7 @@
 --   verdictOf, countOf, firstOf, secondOf   the verdict of an answer, how many columns were restored and their numbers; 0 129 129 where it is refused
 --   Benched        the bench holds columns `first` and `second` of v; of n columns restored, halves that hold none are as they were
 --   RestoredFrom   n columns are absent, `first` and `second` are their numbers, 129 for none, and the bench is that of a valid stripe that agrees
---   Restores       refused: 1, 2, 3, 9, 4, 5, and the bench is as it was; passed: `RestoredFrom`
+--   Restores       refused by `restoreRules`, and the bench is as it was; passed: `RestoredFrom`
 --   restoredBy     the answer where the gaps were filled, and where they could not be
 use mathlib.Core.Path.{_≡_}
 use mathlib.Core.Bool.{Bool, true, false, cond}

@@ -3,7 +3,7 @@
 --   fromBenchOf, startOf, lengthOf   where an answer says that the column lies: 0 for the stripe and 1 for the bench, and the part; 0 0 0 where it is refused
 --   half map t         the half of the bench where restore puts absent column t: 0 for the lowest absent column, 1 for the other
 --   PartOf x at n r    r is the n bytes of the lent buffer x from `at` on, where they lie: the same block, the place in it, the bytes. No copy.
---   Places             what the question "where" answers. Refused: 1, 2, 3, 9, 7, 4; passed: `Lies`
+--   Places             what the question "where" answers. Refused by `showRules`; passed: `Lies`
 --   Shows              what show hands out; refused, it is an empty part at the start of the stripe
 use mathlib.Core.Path.{_≡_}
 use mathlib.Core.Bool.{Bool, cond}

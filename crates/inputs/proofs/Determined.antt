@@ -19,8 +19,9 @@ use Rattle.inputs.specs.declared.shapes.Judged.the-variants as judged
 use Rattle.inputs.specs.Refusals.{Rule, Gives}
 use Rattle.inputs.specs.Rules.{shapeRules, stripeRules, lentRules, gapRules, placeRules}
 use Rattle.inputs.specs.Shapes.{verdictOf, goodColumn}
-use Rattle.inputs.specs.Determined.{JudgesOne, JudgesStripeOne, JudgesLentOne, JudgesGapsOne, NewOne, OfBytesOne, AsBytesOne, MarksOne, MarkedTwice, JudgesPlaceOne, FindsGapsOne, FindsStraysOne}
+use Rattle.inputs.specs.Determined.{JudgesOne, ShapesPass, JudgesStripeOne, JudgesLentOne, JudgesGapsOne, NewOne, OfBytesOne, AsBytesOne, MarksOne, MarkedTwice, JudgesPlaceOne, FindsGapsOne, FindsStraysOne}
 use Rattle.inputs.proofs.Rules.{passes-not, refuse-one, gives-one}
+use Rattle.inputs.proofs.Shape.{shape-passes, passes-shape}
 use Rattle.inputs.proofs.Presence.{same-map}
 
 -- two answers that the same rules give, and that say the same column, are one
@@ -33,6 +34,10 @@ judged-one rules m b (judged.Refused f) (judged.Refused g) x u y v = ap judged.R
 pub judges-one : JudgesOne
 unfolding JudgesOne
 judges-one m k b r q x y = judged-one (shapeRules m k b) m b r q (x .told) (x .column) (y .told) (y .column)
+
+pub shapes-pass : ShapesPass
+unfolding ShapesPass
+shapes-pass m k b = (passes-shape m k b, shape-passes m k b)
 
 pub judges-stripe-one : JudgesStripeOne
 unfolding JudgesStripeOne

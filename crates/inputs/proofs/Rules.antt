@@ -4,10 +4,10 @@
 --   passes-not, refuse-one      a pass is no refusal, and one refusal is no other
 --   gives-one                   a list of rules gives one verdict
 --   gives-refused, gives-after  of two lists in a row: the first refuses; it passes, and the second gives the verdict
---   Alike, gives-alike          two lists whose conditions say the same give the same
+--   gives-instead               of two lists in a row another stands for the second
 --   gives-passed, gives-rest    two lists in a row pass: each does; the first passes: the second gives the verdict of both
-use mathlib.Core.Path.{_≡_, refl, sym, ap, _∙_}
-use mathlib.Core.Logic.{_≢_, _⊎_, inl, inr, by-cases, _↔_}
+use mathlib.Core.Path.{_≡_, refl, sym, _∙_}
+use mathlib.Core.Logic.{_≢_, _⊎_, inl, inr, by-cases}
 use mathlib.Core.List.{List, [], _∷_, _++_}
 use Prim.Native.Nat.{ℕ}
 use native.Mathlib.Decide.{ℕ-discrete}
@@ -64,16 +64,8 @@ gives-rest (r ∷ rules) more v (inl p) h = absurd (passes-not (r .refusal) (p .
 gives-rest (r ∷ rules) more v (inr p) (inl q) = absurd (p .0 (q .0))
 gives-rest (r ∷ rules) more v (inr p) (inr q) = gives-rest rules more v (p .1) (q .1)
 
--- two lists whose conditions say the same give the same
-abbrev pub Alike : List Rule → List Rule → Type 0
-Alike [] [] = Unit {0}
-Alike [] (q ∷ qs) = ⊥
-Alike (r ∷ rs) [] = ⊥
-Alike (r ∷ rs) (q ∷ qs) = (r .condition ↔ q .condition) × (r .refusal ≡ q .refusal) × Alike rs qs
-
-pub gives-alike : (rules more : List Rule) (v : Verdict) → Alike rules more → Gives rules v → Gives more v
-gives-alike [] [] v a g = g
-gives-alike [] (q ∷ qs) v a g = absurd a
-gives-alike (r ∷ rs) [] v a g = absurd a
-gives-alike (r ∷ rs) (q ∷ qs) v a (inl p) = inl (a .0 .0 (p .0), p .1 ∙ ap refuse (a .1))
-gives-alike (r ∷ rs) (q ∷ qs) v a (inr p) = inr (λ c. p .0 (a .0 .1 c), gives-alike rs qs v (a .2) (p .1))
+-- of two lists in a row another stands for the second
+pub gives-instead : (rules more other : List Rule) (v : Verdict) → (Gives more v → Gives other v) → Gives (rules ++ more) v → Gives (rules ++ other) v
+gives-instead [] more other v h g = h g
+gives-instead (r ∷ rules) more other v h (inl p) = inl p
+gives-instead (r ∷ rules) more other v h (inr p) = inr (p .0, gives-instead rules more other v h (p .1))

@@ -1,22 +1,30 @@
 -- Each promise determines its result: two results that meet it are equal. Each statement is a type, which proofs/Determined inhabits.
 -- What `is_present` and `number` promise is an equation, so there is nothing to say of them.
 --   JudgesOne, JudgesStripeOne, JudgesLentOne, JudgesGapsOne, NewOne, OfBytesOne, AsBytesOne, MarksOne, JudgesPlaceOne, FindsGapsOne, FindsStraysOne    the promise of each call
+--   ShapesPass     the shape's rules, one for each number, let exactly the shapes pass
 --   MarkedTwice    marking twice equals marking once
 use mathlib.Core.Path.{_≡_}
+use mathlib.Core.Logic.{_↔_}
 use mathlib.Core.Bool.{Bool}
 use mathlib.Core.List.{List}
 use Prim.Native.Nat.{ℕ}
+use Rattle.parity.specs.Shape.{Shape}
 use Rattle.inputs.specs.declared.lent.Given.{Given}
 use Rattle.inputs.specs.declared.maps.Gaps.{Gaps}
 use Rattle.inputs.specs.declared.maps.Map.{Map}
 use Rattle.inputs.specs.declared.maps.Marked.{Marked}
 use Rattle.inputs.specs.declared.shapes.Judged.{Judged}
+use Rattle.inputs.specs.Refusals.{pass, Gives}
+use Rattle.inputs.specs.Rules.{shapeRules}
 use Rattle.inputs.specs.Shapes.{Judges}
 use Rattle.inputs.specs.Tests.{JudgesStripe, JudgesLent, JudgesGaps}
 use Rattle.inputs.specs.Maps.{New, OfBytes, AsBytes, Marks, JudgesPlace, FindsGaps, FindsStrays}
 
 unfoldable pub JudgesOne : Type 0
 JudgesOne = (m k b : ℕ) (r q : Judged) → Judges m k b r → Judges m k b q → r ≡ q
+
+unfoldable pub ShapesPass : Type 0
+ShapesPass = (m k b : ℕ) → Gives (shapeRules m k b) pass ↔ Shape m k b
 
 unfoldable pub JudgesStripeOne : Type 0
 JudgesStripeOne = (m k b n : ℕ) (r q : Judged) → JudgesStripe m k b n r → JudgesStripe m k b n q → r ≡ q

@@ -9,10 +9,10 @@ use mathlib.Core.Logic.{_⊎_}
 use mathlib.Core.List.{List, [], _∷_}
 use Prim.Native.Nat.{ℕ}
 use Rattle.inputs.specs.declared.shapes.Refusal.{Refusal}
-use Rattle.inputs.specs.declared.shapes.Refusal.the-variants.{Shape, StripeLength, BenchLength, Ambiguous, Contradicted, Unmendable, NoSuchColumn, Malformed, StrayColumn, TooLong}
+use Rattle.inputs.specs.declared.shapes.Refusal.the-variants.{WrongM, StripeLength, BenchLength, Ambiguous, Contradicted, Unmendable, NoSuchColumn, Malformed, StrayColumn, TooLong, WrongK, WrongB}
 
 abbrev pub numberOf : Refusal → ℕ
-numberOf Shape = 1
+numberOf WrongM = 1
 numberOf StripeLength = 2
 numberOf BenchLength = 3
 numberOf Ambiguous = 4
@@ -22,6 +22,8 @@ numberOf NoSuchColumn = 7
 numberOf Malformed = 8
 numberOf StrayColumn = 9
 numberOf TooLong = 10
+numberOf WrongK = 12
+numberOf WrongB = 13
 
 pub data Verdict : Type 0 where
   pass : Verdict

@@ -1,5 +1,5 @@
 -- Every rule of refusal, once and by name, and the order in which each call asks them. The refusal of the first rule that applies is given.
---   badShape m k b                1: m, k or b is outside its rule
+--   wrongM m                      1: m is no odd prime from 3 to 127
 --   stripeLengthDiffers m k b n   2: a stripe is not n bytes
 --   benchLengthDiffers m b n      3: a bench is not n bytes
 --   tooManyAbsent k map           4: three or more columns are absent
@@ -8,20 +8,23 @@
 --   noSuchColumn k column         7: the shape has no column of that number
 --   noSuchPlace place             7: the map has no place of that number
 --   strayColumn k map             9: a place at or above k + 2 is present
+--   wrongK m k                    12: k is 0 or above m
+--   wrongB b                      13: b is 0 or above 4,096
 -- 8 stands with the shelf image's format, and 10 with the program. The orders:
---   shapeRules     1: the order of every call begins with them
---   stripeRules    1, 2: encode and check
---   mendRules      1, 2, 6
---   lentRules      1, 2, 3, 9: what a map, a stripe and a bench are asked first
---   gapRules       1, 2, 3, 9, 4
---   restoreRules   1, 2, 3, 9, 4, 5
---   showRules      1, 2, 3, 9, 7, 4
+--   shapeRules     1, 12, 13: the order of every call begins with them
+--   stripeRules    1, 12, 13, 2: encode and check
+--   mendRules      1, 12, 13, 2, 6
+--   lentRules      1, 12, 13, 2, 3, 9: what a map, a stripe and a bench are asked first
+--   gapRules       1, 12, 13, 2, 3, 9, 4
+--   restoreRules   1, 12, 13, 2, 3, 9, 4, 5
+--   showRules      1, 12, 13, 2, 3, 9, 7, 4
 --   placeRules     7: marking a place
-use mathlib.Core.Logic.{_≢_}
+use mathlib.Core.Path.{_≡_}
+use mathlib.Core.Logic.{_≢_, _⊎_}
 use mathlib.Core.List.{List, [], _∷_, _++_}
-use Prim.Native.Nat.{ℕ, _+_, _≤_}
+use Prim.Native.Nat.{ℕ, _+_, _≤_, _<_}
 use lib.ListN.{length}
-use Rattle.parity.specs.Shape.{Shape, stripeLength, benchLength}
+use Rattle.parity.specs.Shape.{OddPrime, stripeLength, benchLength}
 use Rattle.parity.specs.Stripe.{Valid}
 use Rattle.parity.specs.Presence.{absences, differing, Agrees}
 use Rattle.inputs.specs.declared.maps.Map.{Map}
@@ -29,8 +32,8 @@ use Rattle.inputs.specs.declared.shapes.Refusal.the-variants as refusal
 use Rattle.inputs.specs.Refusals.{Rule}
 use Rattle.inputs.specs.Absent.{Stray}
 
-abbrev pub badShape : ℕ → ℕ → ℕ → Rule
-badShape m k b = record { condition = Shape m k b → ⊥; refusal = refusal.Shape }
+abbrev pub wrongM : ℕ → Rule
+wrongM m = record { condition = OddPrime m → ⊥; refusal = refusal.WrongM }
 
 abbrev pub stripeLengthDiffers : ℕ → ℕ → ℕ → ℕ → Rule
 stripeLengthDiffers m k b n = record { condition = n ≢ stripeLength m k b; refusal = refusal.StripeLength }
@@ -56,10 +59,16 @@ noSuchPlace place = record { condition = 129 ≤ place; refusal = refusal.NoSuch
 abbrev pub strayColumn : ℕ → Map → Rule
 strayColumn k map = record { condition = Stray k (map .places); refusal = refusal.StrayColumn }
 
+abbrev pub wrongK : ℕ → ℕ → Rule
+wrongK m k = record { condition = (k ≡ 0) ⊎ (m < k); refusal = refusal.WrongK }
+
+abbrev pub wrongB : ℕ → Rule
+wrongB b = record { condition = (b ≡ 0) ⊎ (4096 < b); refusal = refusal.WrongB }
+
 -- ---- the orders
 
 abbrev pub shapeRules : ℕ → ℕ → ℕ → List Rule
-shapeRules m k b = badShape m k b ∷ []
+shapeRules m k b = wrongM m ∷ wrongK m k ∷ wrongB b ∷ []
 
 abbrev pub stripeRules : ℕ → ℕ → ℕ → ℕ → List Rule
 stripeRules m k b n = shapeRules m k b ++ (stripeLengthDiffers m k b n ∷ [])

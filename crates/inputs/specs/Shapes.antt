@@ -18,7 +18,7 @@ verdictOf (Refused r) = refuse r
 
 -- a good shape carries no refusal
 abbrev pub refusalOf : Judged → Refusal
-refusalOf (Good c) = refusal.Shape
+refusalOf (Good c) = refusal.WrongM
 refusalOf (Refused r) = r
 
 abbrev pub goodColumn : ℕ → ℕ → Judged → Type 0

@@ -1,7 +1,7 @@
 -- The tests that the calls share. n is the length of a stripe, and w that of a bench.
---   JudgesStripe            1, 2: three numbers, and a stripe
---   JudgesLent              1, 2, 3, 9: and a bench and a map
---   JudgesGaps              1, 2, 3, 9, 4: and that at most two columns are absent, with which they are
+--   JudgesStripe            refused by `stripeRules`: three numbers, and a stripe
+--   JudgesLent              refused by `lentRules`: and a bench and a map
+--   JudgesGaps              refused by `gapRules`: and that at most two columns are absent, with which they are
 --   verdictOf, refusalOf    the verdict of an answer of the last, and the refusal that it carries
 --   GoodGaps                what it gives: the bytes of a column, and the gaps below k + 2
 use mathlib.Core.Path.{_≡_}
@@ -12,7 +12,7 @@ use Rattle.inputs.specs.declared.lent.Given.the-variants as given
 use Rattle.inputs.specs.declared.maps.Map.{Map}
 use Rattle.inputs.specs.declared.shapes.Judged.{Judged}
 use Rattle.inputs.specs.declared.shapes.Refusal.{Refusal}
-use Rattle.inputs.specs.declared.shapes.Refusal.the-variants.{Shape}
+use Rattle.inputs.specs.declared.shapes.Refusal.the-variants.{WrongM}
 use Rattle.inputs.specs.Refusals.{Verdict, pass, refuse, Gives}
 use Rattle.inputs.specs.Rules.{stripeRules, lentRules, gapRules}
 use Rattle.inputs.specs.Absent.{Counts}
@@ -33,7 +33,7 @@ verdictOf (given.Refused r) = refuse r
 
 -- what is good carries no refusal
 abbrev pub refusalOf : Given → Refusal
-refusalOf (given.Good c gaps) = Shape
+refusalOf (given.Good c gaps) = WrongM
 refusalOf (given.Refused r) = r
 
 abbrev pub GoodGaps : ℕ → ℕ → ℕ → Map → Given → Type 0

@@ -14,13 +14,13 @@ pub enum Given {
 }
 
 impl Given {
-    // The refusal that is carried. What is good carries none; of it the answer is Shape.
+    // The refusal that is carried. What is good carries none; of it the answer is WrongM.
     pub fn refusal(self) -> Refusal
         ensures { λ r. ⌜ r ≡ refusalOf self ⌝ }
     {
         match self {
             Given::Refused(r) => r,
-            Given::Good { column: _, gaps: _ } => Refusal::Shape,
+            Given::Good { column: _, gaps: _ } => Refusal::WrongM,
         }
     }
 }

@@ -5,7 +5,7 @@ ghost use Rattle.inputs.specs.Shapes.{Judges, refusalOf};
 
 // Why a call is refused. Every call of the shelf refuses with one of these, and each has one number.
 pub enum Refusal {
-    Shape,
+    WrongM,
     StripeLength,
     BenchLength,
     Ambiguous,
@@ -15,15 +15,17 @@ pub enum Refusal {
     Malformed,
     StrayColumn,
     TooLong,
+    WrongK,
+    WrongB,
 }
 
 impl Refusal {
-    // The refusal's number, 1 to 10.
+    // The refusal's number: 1 to 10, 12 or 13.
     pub fn number(self) -> u8
         ensures { λ r. ⌜ r ≡ numberOf self ⌝ }
     {
         match self {
-            Refusal::Shape => 1,
+            Refusal::WrongM => 1,
             Refusal::StripeLength => 2,
             Refusal::BenchLength => 3,
             Refusal::Ambiguous => 4,
@@ -33,6 +35,8 @@ impl Refusal {
             Refusal::Malformed => 8,
             Refusal::StrayColumn => 9,
             Refusal::TooLong => 10,
+            Refusal::WrongK => 12,
+            Refusal::WrongB => 13,
         }
     }
 }
@@ -44,23 +48,29 @@ pub enum Judged {
 }
 
 impl Judged {
-    // The refusal that is carried. A good shape carries none; of it the answer is Shape.
+    // The refusal that is carried. A good shape carries none; of it the answer is WrongM.
     pub fn refusal(self) -> Refusal
         ensures { λ r. ⌜ r ≡ refusalOf self ⌝ }
     {
         match self {
             Judged::Refused(r) => r,
-            Judged::Good { column: _ } => Refusal::Shape,
+            Judged::Good { column: _ } => Refusal::WrongM,
         }
     }
 }
 
-// Judges three numbers, whatever they are.
+// Judges three numbers, whatever they are: m alone, then k against m, then b alone.
 pub fn judge(m: usize, k: usize, b: usize) -> Judged
     ensures { λ r. ⌜ Judges m k b r ⌝ }
 {
-    if !parity::is_shape(m, k, b) {
-        return Judged::Refused(Refusal::Shape);
+    if !parity::is_accepted(m) {
+        return Judged::Refused(Refusal::WrongM);
+    }
+    if k == 0 || m < k {
+        return Judged::Refused(Refusal::WrongK);
+    }
+    if b == 0 || 4096 < b {
+        return Judged::Refused(Refusal::WrongB);
     }
     Judged::Good {
         column: (m - 1) * b,

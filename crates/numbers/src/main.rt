@@ -11,21 +11,28 @@ fn proved_cases(out: &mut [u8], at: usize) -> usize {
     cases::three_absent(out, d)
 }
 
-// The cases that are run and compared.
+// The other cases that are run and compared.
 fn other_cases(out: &mut [u8], at: usize) -> usize {
-    let a = others::bad_rows(out, at);
-    let b = others::edges_of_columns(out, a);
-    let c = others::edges_of_cells(out, b);
-    let d = others::lengths(out, c);
-    let e = others::places(out, d);
-    others::wrong_cells(out, e)
+    let a = others::lengths(out, at);
+    let b = others::places(out, a);
+    let c = others::shapes_and_benches(out, b);
+    let d = others::shapes_and_lengths(out, c);
+    others::wrong_cells(out, d)
+}
+
+// Images.
+fn image_cases(out: &mut [u8], at: usize) -> usize {
+    let a = others::image_lines(out, at);
+    let b = others::wrong_numbers(out, a);
+    others::wrong_pairs(out, b)
 }
 
 fn main() {
     let mut out = [0u8; 8192];
     let first = proved_cases(&mut out, 0);
-    let second = other_cases(&mut out, first);
-    let end = others::image_lines(&mut out, second);
+    let second = cases::shape_lines(&mut out, first);
+    let third = other_cases(&mut out, second);
+    let end = image_cases(&mut out, third);
     if end <= 8192 {
         io::write_all(1, &out[0..end]);
     }

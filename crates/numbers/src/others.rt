@@ -9,46 +9,6 @@ use say::report_line;
 use say::restore_line;
 use say::show_line;
 
-// A check of n zeros, at most 24,582.
-fn zeros_line(
-    out: &mut [u8],
-    at: usize,
-    name: &[u8],
-    m: usize,
-    k: usize,
-    b: usize,
-    n: usize,
-) -> usize {
-    let zeros = [0u8; 24582];
-    if 24582 < n {
-        return at;
-    }
-    check_line(out, at, name, m, k, b, &zeros[0..n])
-}
-
-// Values of m that are refused.
-pub(crate) fn bad_rows(out: &mut [u8], at: usize) -> usize {
-    let a = zeros_line(out, at, b"m=2", 2, 1, 1, 3);
-    let b = zeros_line(out, a, b"m=9", 9, 1, 1, 24);
-    let c = zeros_line(out, b, b"m=129", 129, 1, 1, 384);
-    zeros_line(out, c, b"m=131", 131, 1, 1, 390)
-}
-
-// The largest m, and k at its edges.
-pub(crate) fn edges_of_columns(out: &mut [u8], at: usize) -> usize {
-    let a = zeros_line(out, at, b"m=127", 127, 1, 1, 378);
-    let b = zeros_line(out, a, b"k=0", 3, 0, 1, 4);
-    let c = zeros_line(out, b, b"k=4", 3, 4, 1, 12);
-    zeros_line(out, c, b"k=3", 3, 3, 1, 10)
-}
-
-// b at its edges.
-pub(crate) fn edges_of_cells(out: &mut [u8], at: usize) -> usize {
-    let a = zeros_line(out, at, b"b=0", 3, 1, 0, 0);
-    let b = zeros_line(out, a, b"b=4097", 3, 1, 4097, 24582);
-    zeros_line(out, b, b"b=4096", 3, 1, 4096, 24576)
-}
-
 // C1 cut, and with one byte more.
 pub(crate) fn lengths(out: &mut [u8], at: usize) -> usize {
     let mut short = [1u8, 2, 4, 8, 16, 32, 21, 42, 57];
@@ -59,16 +19,35 @@ pub(crate) fn lengths(out: &mut [u8], at: usize) -> usize {
     encode_line(out, third, b"length=11", 3, 3, 1, &mut long)
 }
 
-// A place above the columns, and a bad shape with a bad bench.
+// A place above the columns.
 pub(crate) fn places(out: &mut [u8], at: usize) -> usize {
     let c1 = [1u8, 2, 4, 8, 16, 32, 21, 42, 57, 30];
     let mut bench = [161u8, 162, 163, 164];
     let map = five();
     let stray = map.mark_present(5);
     let first = restore_line(out, at, b"place=5", [3, 3, 1], stray, &c1, &mut bench);
-    let second = show_line(out, first, b"place=5", [3, 3, 1], stray, &c1, &bench, 0);
+    show_line(out, first, b"place=5", [3, 3, 1], stray, &c1, &bench, 0)
+}
+
+// A wrong number of the shape with a bench of another length.
+pub(crate) fn shapes_and_benches(out: &mut [u8], at: usize) -> usize {
+    let c1 = [1u8, 2, 4, 8, 16, 32, 21, 42, 57, 30];
     let mut short = [161u8];
-    restore_line(out, second, b"shape+bench", [2, 3, 1], map, &c1, &mut short)
+    let map = five();
+    let m = restore_line(out, at, b"m+bench", [2, 3, 1], map, &c1, &mut short);
+    let k = restore_line(out, m, b"k+bench", [3, 4, 1], map, &c1, &mut short);
+    restore_line(out, k, b"b+bench", [3, 3, 0], map, &c1, &mut short)
+}
+
+// And with a stripe of another length, or with a place and a column that the shape does not have.
+pub(crate) fn shapes_and_lengths(out: &mut [u8], at: usize) -> usize {
+    let mut c1 = [1u8, 2, 4, 8, 16, 32, 21, 42, 57, 30];
+    let bench = [161u8, 162, 163, 164];
+    let k = encode_line(out, at, b"k+length", 3, 4, 1, &mut c1);
+    let b = mend_line(out, k, b"b+length", 3, 3, 4097, &mut c1);
+    let map = five();
+    let stray = map.mark_present(5);
+    show_line(out, b, b"k+column", [3, 4, 1], stray, &c1, &bench, 9)
 }
 
 // Two lanes wrong in two columns, and a wrong cell that lies in S.
@@ -162,4 +141,25 @@ pub(crate) fn image_lines(out: &mut [u8], at: usize) -> usize {
     let first = contents_line(out, at, b"C5-image", &image);
     let second = read_line(out, first, b"C5-image", &image, &mut stripe);
     report_line(out, second, b"C5-image", &image)
+}
+
+// What an image of eight bytes, its header, says, and its report.
+fn header_lines(out: &mut [u8], at: usize, name: &[u8], header: [u8; 8]) -> usize {
+    let next = contents_line(out, at, name, &header);
+    report_line(out, next, name, &header)
+}
+
+// Images with one wrong number of the shape.
+pub(crate) fn wrong_numbers(out: &mut [u8], at: usize) -> usize {
+    let m = header_lines(out, at, b"image,m=2", [2, 0, 3, 0, 1, 0, 0, 0]);
+    let k = header_lines(out, m, b"image,k=4", [3, 0, 4, 0, 1, 0, 0, 0]);
+    header_lines(out, k, b"image,b=0", [3, 0, 3, 0, 0, 0, 0, 0])
+}
+
+// With two of them, with one beside a wrong fourth number, and with none.
+pub(crate) fn wrong_pairs(out: &mut [u8], at: usize) -> usize {
+    let a = header_lines(out, at, b"image,m=2,k=0", [2, 0, 0, 0, 1, 0, 0, 0]);
+    let b = header_lines(out, a, b"image,k=4,b=0", [3, 0, 4, 0, 0, 0, 0, 0]);
+    let c = header_lines(out, b, b"image,b=0,fourth", [3, 0, 3, 0, 0, 0, 1, 0]);
+    header_lines(out, c, b"image,k=3", [3, 0, 3, 0, 1, 0, 0, 0])
 }

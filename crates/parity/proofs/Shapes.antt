@@ -1,13 +1,12 @@
 -- Laws of a shape.
 --   accepted-prime, prime-accepted   the table, as the rule on m
---   shape-dec, shape-of            whether three numbers are a shape is decided
---   whole-stripe                   the bytes of a stripe, by those of a column
+--   odd-prime-of                     whether a number is one of them is decided
+--   whole-stripe                     the bytes of a stripe, by those of a column
 --   column-most, places-most, parts-most    what is computed from a shape fits a number
 use mathlib.Core.Path.{_≡_, refl, sym, ap, _∙_}
 use mathlib.Core.Bool.{Bool, true, false, true≢false}
 use Prim.Native.Nat.{ℕ, _+_, _*_, _≤_}
 use native.Mathlib.Nat.{mul-le-mul}
-use native.Mathlib.Decide.{decLe}
 use native.Mathlib.Omega.{arith}
 use Rattle.parity.specs.Shape.{OddPrime, accepted, member, Shape, columnLength, stripeLength}
 use Rattle.parity.specs.Theorems.{Table}
@@ -21,19 +20,12 @@ pub prime-accepted : (m : ℕ) → OddPrime m → member m accepted ≡ true
 unfolding Table
 prime-accepted m p = table m .1 p
 
-pub shape-dec : (m k b : ℕ) → Dec (Shape m k b)
-shape-dec m k b = go (member m accepted) refl (decLe 1 k) (decLe k m) (decLe 1 b) (decLe b 4096)
+pub odd-prime-of : (m : ℕ) → ((OddPrime m → ⊥) → ⊥) → OddPrime m
+odd-prime-of m n = go (member m accepted) refl
   where
-    go : (t : Bool) → member m accepted ≡ t → Dec (1 ≤ k) → Dec (k ≤ m) → Dec (1 ≤ b) → Dec (b ≤ 4096) → Dec (Shape m k b)
-    go false e p q r s = no (λ x. true≢false (sym (prime-accepted m (x .value)) ∙ e))
-    go true e (no n) q r s = no (λ x. n (x .real))
-    go true e (yes p) (no n) r s = no (λ x. n (x .few))
-    go true e (yes p) (yes q) (no n) s = no (λ x. n (x .filled))
-    go true e (yes p) (yes q) (yes r) (no n) = no (λ x. n (x .short))
-    go true e (yes p) (yes q) (yes r) (yes s) = yes (record { value = accepted-prime m e; real = p; few = q; filled = r; short = s })
-
-pub shape-of : (m k b : ℕ) → ((Shape m k b → ⊥) → ⊥) → Shape m k b
-shape-of m k b n = elim (shape-dec m k b) [ yes s ↦ s | no f ↦ absurd (n f) ]
+    go : (t : Bool) → member m accepted ≡ t → OddPrime m
+    go true e = accepted-prime m e
+    go false e = absurd (n (λ p. true≢false (sym (prime-accepted m p) ∙ e)))
 
 pub whole-stripe : (m k b : ℕ) {c : ℕ} → c ≡ columnLength m b → (k + 2) * c ≡ stripeLength m k b
 unfolding stripeLength

@@ -1,8 +1,6 @@
-// The accepted values of m, and the rules of a shape.
+// The accepted values of m.
 ghost use mathlib.Core.Path.{_≡_};
-ghost use mathlib.Core.Logic.{_↔_};
-ghost use mathlib.Core.Bool.{true};
-ghost use Rattle.parity.specs.Shape.{accepted, member, Shape};
+ghost use Rattle.parity.specs.Shape.{accepted, member};
 
 const ACCEPTED: [usize; 30] = [
     3,
@@ -48,23 +46,4 @@ pub fn is_accepted(m: usize) -> bool
         }
     }
     false
-}
-
-// Whether three numbers are a shape.
-pub fn is_shape(m: usize, k: usize, b: usize) -> bool
-    ensures { λ r. ⌜ (r ≡ true) ↔ Shape m k b ⌝ }
-{
-    if k == 0 {
-        return false;
-    }
-    if m < k {
-        return false;
-    }
-    if b == 0 {
-        return false;
-    }
-    if 4096 < b {
-        return false;
-    }
-    is_accepted(m)
 }

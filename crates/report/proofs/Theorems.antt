@@ -34,7 +34,8 @@ use Rattle.report.specs.declared.judging.Outcome.{Outcome}
 use Rattle.report.specs.declared.judging.Outcome.the-variants as outcome
 use Rattle.report.specs.declared.judging.Judgement.{Judgement}
 use Rattle.report.specs.Judgements.{Formed, verdictOf, partRules, Benches, JudgesParts, stripeOf, benchOf, formedRules, InParts, Unwritten, Leaves, JudgesFormed, Rejected}
-use Rattle.report.specs.Theorems.{JudgesImageOne, ReportsOne, Enough}
+use Rattle.report.specs.Reports.{textOf}
+use Rattle.report.specs.Theorems.{JudgesImageOne, ReportsOne, AnswerAlone, Enough}
 use Rattle.report.proofs.Judged.{by-contents, formed-good, not-stray, read-passes, skip}
 use Rattle.report.proofs.Told.{most}
 
@@ -187,6 +188,11 @@ reports-one image s bench before after after′ benched benched′ out out′ r 
     let rest : drop r′ out ≡ drop r′ out′ = rw size at (u .rest) ∙ sym (v .rest) in
     (size, joined r′ (rw size at text) rest, stripe, bytes, same)
 
+pub answer-alone : AnswerAlone
+unfolding AnswerAlone
+answer-alone image s after bench benched before out r f h short told =
+    h .text ∙ ap (λ o. textOf o (h .judgement .map) after benched) (h .judged .bad short f told .outcome)
+
 -- ---- what is never judged where enough is lent
 
 module _ {f : Refusal} (short : Short f) where
@@ -195,7 +201,9 @@ module _ {f : Refusal} (short : Short f) where
   not-contents image (inl p) = clash short (p .1) refl
   not-contents image (inr (_, inl p)) = clash short (p .1) refl
   not-contents image (inr (_, inr (_, inl p))) = clash short (p .1) refl
-  not-contents image (inr (_, inr (_, inr p))) = passes-not f (sym (p .1))
+  not-contents image (inr (_, inr (_, inr (_, inl p)))) = clash short (p .1) refl
+  not-contents image (inr (_, inr (_, inr (_, inr (_, inl p))))) = clash short (p .1) refl
+  not-contents image (inr (_, inr (_, inr (_, inr (_, inr p))))) = passes-not f (sym (p .1))
 
   -- nor is a well-formed image, if its stripe and its bench have room
   not-formed : (shape : Shape) (map : Map) (s bench x : List ℕ)

@@ -1,16 +1,21 @@
 -- What follows from the promises of the report. Each statement is a type, which proofs/Theorems inhabits.
 --   JudgesImageOne   two judgements that meet the promise are equal, and so are the stripe and the bench after them
 --   ReportsOne       two reports that meet the promise are equal: the length, `out`, the stripe and the bench, and what was judged
+--   AnswerAlone      of an image whose contents are refused, by 8 or a number of its shape (1, 12, 13), the text is the answer line alone
 --   Enough           a stripe of 49,056 bytes and a bench of 32,704 are enough for every image: the refusals 2 and 3 are never given
 use mathlib.Core.Path.{_≡_}
 use mathlib.Core.Logic.{_≢_}
 use mathlib.Core.List.{List}
 use Prim.Native.Nat.{ℕ, _≤_}
-use lib.ListN.{length}
+use lib.ListN.{length, take}
+use Rattle.inputs.specs.declared.shapes.Refusal.{Refusal}
 use Rattle.inputs.specs.declared.shapes.Refusal.the-variants.{StripeLength, BenchLength}
+use Rattle.inputs.specs.Refusals.{numberOf, refuse, Gives}
+use Rattle.image.specs.Reads.{contentsRules}
 use Rattle.report.specs.declared.judging.Outcome.the-variants.{Refused}
 use Rattle.report.specs.declared.judging.Judgement.{Judgement}
-use Rattle.report.specs.Judgements.{JudgesImage}
+use Rattle.report.specs.Lines.{answerLine}
+use Rattle.report.specs.Judgements.{longest, JudgesImage}
 use Rattle.report.specs.Reports.{Reports}
 
 unfoldable pub JudgesImageOne : Type 0
@@ -22,6 +27,10 @@ unfoldable pub ReportsOne : Type 0
 ReportsOne = (image s bench before after after′ benched benched′ out out′ : List ℕ) (r r′ : ℕ)
     → (u : Reports image s after bench benched before out r) (v : Reports image s after′ bench benched′ before out′ r′)
     → (r ≡ r′) × (out ≡ out′) × (after ≡ after′) × (benched ≡ benched′) × (u .judgement ≡ v .judgement)
+
+unfoldable pub AnswerAlone : Type 0
+AnswerAlone = (image s after bench benched before out : List ℕ) (r : ℕ) (f : Refusal) → Reports image s after bench benched before out r
+    → length image ≤ longest → Gives (contentsRules image) (refuse f) → take r out ≡ answerLine (numberOf f)
 
 unfoldable pub Enough : Type 0
 Enough = (image s after bench benched : List ℕ) (r : Judgement) → 49056 ≤ length s → 32704 ≤ length bench → JudgesImage image s after bench benched r
