@@ -126,6 +126,7 @@ fn code_recipes() -> Vec<Recipe> {
         list.push(Recipe::Plain(Request::Mend, faults, OneColumn));
     }
     for damage in [None, OneColumn, TwoColumns, Lanes, Imaginary, Garbage, H, D] {
+        list.push(Recipe::Plain(Request::Encode, vec![], damage));
         list.push(Recipe::Plain(Request::Check, vec![], damage));
         list.push(Recipe::Plain(Request::Mend, vec![], damage));
         list.push(Recipe::Plain(Request::Mend, vec![], damage));

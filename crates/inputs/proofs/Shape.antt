@@ -32,6 +32,9 @@ bounds : (n most : ℕ) → ((n ≡ 0) ⊎ (most < n) → ⊥) → (1 ≤ n) × 
 bounds n most h = let nonzero : n ≢ 0 = λ e. h (inl e) in let below : most < n → ⊥ = λ l. h (inr l) in (omega arith, omega arith)
 
 module _ (m k b : ℕ) where
+  pub judges-m : (OddPrime m → ⊥) → Judges m k b (Refused refusal.WrongM)
+  judges-m n = record { told = gives-first n; column = tt }
+
   -- the shape's rules let exactly the shapes pass
   pub shape-passes : Shape m k b → Gives (shapeRules m k b) pass
   shape-passes s =
@@ -44,9 +47,6 @@ module _ (m k b : ℕ) where
       let (real, few) = bounds k m columns in
       let (filled, short) = bounds b 4096 (passed-first third .0) in
       record { value = odd-prime-of m prime; real = real; few = few; filled = filled; short = short }
-
-  pub judges-m : (OddPrime m → ⊥) → Judges m k b (Refused refusal.WrongM)
-  judges-m n = record { told = gives-first n; column = tt }
 
   module _ (prime : OddPrime m) where
     pub judges-k : (k ≡ 0) ⊎ (m < k) → Judges m k b (Refused refusal.WrongK)
