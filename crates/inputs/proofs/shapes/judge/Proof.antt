@@ -1,8 +1,8 @@
 -- `inputs::shapes::judge` meets its contract: the tests of m, of k and of b, one after another, are the shape's rules.
-use mathlib.Core.Path.{_≡_, sym, _∙_}
-use mathlib.Core.Logic.{_⊎_, inl, inr}
+use mathlib.Core.Path.{sym, _∙_}
+use mathlib.Core.Logic.{inl, inr}
 use mathlib.Core.Bool.{true≢false}
-use Prim.Native.Nat.{_≤_, _<_}
+use Prim.Native.Nat.{_≤_}
 use native.Mathlib.Omega.{arith}
 use borrow.Author.Tests.{not-true, not-false, ltb-true, ltb-false}
 use Rattle.parity.specs.Shape.{OddPrime, Shape, columnLength}
