@@ -26,7 +26,7 @@ pub struct Shape { pub m: usize, pub k: usize, pub b: usize }
 pub fn is_odd_prime(n: usize) -> bool { n >= 3 && (2..n).take_while(|d| d * d <= n).all(|d| n % d != 0) }
 
 impl Shape {
-    /// The first number that is wrong: m, then k for this m, then b.
+    /// The refusal of the first number that is wrong: m, then k for this m, then b.
     pub fn judge(self) -> u8 {
         let Shape { m, k, b } = self;
         if m > 127 || !is_odd_prime(m) { return WRONG_M; }

@@ -92,7 +92,7 @@ const FLAWS: [Flaw; 16] = {
     ]
 };
 
-/// A wrong number of the shape with each other flaw, and all three wrong.
+/// A wrong number of the shape, which the first three flaws are, with each flaw after it, and all three wrong.
 fn wrong_and_more() -> Vec<Vec<Flaw>> {
     let pairs = (0..3).flat_map(|n| FLAWS[n + 1..].iter().map(move |&other| vec![FLAWS[n], other]));
     pairs.chain([FLAWS[..3].to_vec()]).collect()
@@ -125,8 +125,9 @@ fn code_recipes() -> Vec<Recipe> {
         list.push(Recipe::Plain(Request::Check, faults.clone(), OneColumn));
         list.push(Recipe::Plain(Request::Mend, faults, OneColumn));
     }
+    // Most of those encodes are refused.
+    list.extend((0..8).map(|_| Recipe::Plain(Request::Encode, vec![], Garbage)));
     for damage in [None, OneColumn, TwoColumns, Lanes, Imaginary, Garbage, H, D] {
-        list.push(Recipe::Plain(Request::Encode, vec![], damage));
         list.push(Recipe::Plain(Request::Check, vec![], damage));
         list.push(Recipe::Plain(Request::Mend, vec![], damage));
         list.push(Recipe::Plain(Request::Mend, vec![], damage));
@@ -325,11 +326,11 @@ impl Maker {
         }
     }
 
-    /// A value that no m allows, one too many for this m, or one that is right for a larger m.
+    /// A value that no m allows, one that is right for a larger m, or one too many for this m.
     fn bad_k(&mut self, m: usize, turn: usize) -> usize {
-        match turn % 16 {
-            n @ 0..8 => BAD_K[n],
-            8..14 if m < 127 => m + 1 + self.random.below(127 - m),
+        match turn % (BAD_K.len() + 8) {
+            n if n < BAD_K.len() => BAD_K[n],
+            n if n < BAD_K.len() + 6 && m < 127 => m + 1 + self.random.below(127 - m),
             _ => m.saturating_add(1),
         }
     }

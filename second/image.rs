@@ -20,8 +20,10 @@ fn judge(image: &[u8]) -> Result<(Shape, Map), (u8, &'static str)> {
     if fourth != 0 { return Err((BAD_IMAGE, "fourth")); }
     let shape = Shape { m, k, b };
     match shape.judge() {
-        FINE => {}
-        number => return Err((number, match number { WRONG_M => "m", WRONG_K => "k", _ => "b" })),
+        WRONG_M => return Err((WRONG_M, "m")),
+        WRONG_K => return Err((WRONG_K, "k")),
+        WRONG_B => return Err((WRONG_B, "b")),
+        _ => {}
     }
     let mut body = 8 + 8 * shape.columns();
     if image.len() < body { return Err((BAD_IMAGE, "contents-cut")); }

@@ -120,6 +120,7 @@ pub fn all() -> Vec<Number> {
     }
     let map = present(&[0, 1, 2, 3, 4]);
     let stray = present(&[0, 1, 2, 3, 4, 5]);
+    let far = present(&[0, 1, 2, 3, 4, 6]);
     // C1 in both byte lanes; lane 0 wrong in column 0, lane 1 wrong in column 1.
     let mut lanes: Vec<u8> = bytes(C1).iter().flat_map(|&x| [x, x]).collect();
     lanes[0] ^= 0x40;
@@ -132,12 +133,12 @@ pub fn all() -> Vec<Number> {
         ask("length=11", format!("encode 3 3 1 {C1}00"), format!("2 {C1}00")),
         ask("place=5", format!("restore 3 3 1 {stray} {C1} a1a2a3a4"), s("9 0 129 129 a1a2a3a4")),
         ask("place=5", format!("show 3 3 1 {stray} {C1} a1a2a3a4 0"), s("9 0 0 0")),
-        ask("m+bench", format!("restore 2 3 1 {map} {C1} a1"), s("1 0 129 129 a1")),
+        ask("m+bench", format!("restore 9 3 1 {map} {C1} a1"), s("1 0 129 129 a1")),
         ask("k+bench", format!("restore 3 4 1 {map} {C1} a1"), s("12 0 129 129 a1")),
         ask("b+bench", format!("restore 3 3 0 {map} {C1} a1"), s("13 0 129 129 a1")),
         ask("k+length", format!("encode 3 4 1 {C1}"), format!("12 {C1}")),
         ask("b+length", format!("mend 3 3 4097 {C1}"), format!("13 129 {C1}")),
-        ask("k+column", format!("show 3 4 1 {stray} {C1} a1a2a3a4 9"), s("12 0 0 0")),
+        ask("k+column", format!("show 3 4 1 {far} {C1} a1a2a3a4 9"), s("12 0 0 0")),
         ask("lanes", format!("mend 3 3 2 {lanes}"), format!("6 129 {lanes}")),
         ask("08->09", s("check 3 3 1 010204091020152a391e"), s("0 1 2")),
         ask("C5-image", format!("contents {C5_IMAGE}"), format!("0 3 3 1 {cols_134}")),
@@ -149,10 +150,10 @@ pub fn all() -> Vec<Number> {
         printed("C5-image", C5_IMAGE, s(C5_TEXT)),
     ]);
     let headers = [
-        ("image,m=2", "0200030001000000", 1),
+        ("image,m=9", "0900030001000000", 1),
         ("image,k=4", "0300040001000000", 12),
         ("image,b=0", "0300030000000000", 13),
-        ("image,m=2,k=0", "0200000001000000", 1),
+        ("image,m=9,k=0", "0900000001000000", 1),
         ("image,k=4,b=0", "0300040000000000", 12),
         ("image,b=0,fourth", "0300030000000100", 8),
         ("image,k=3", "0300030001000000", 8),

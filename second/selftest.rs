@@ -31,24 +31,26 @@ fn document(test: &mut Test) {
     }
 }
 
-/// The shape check against the three rules as they are written down.
+/// What the three rules say of a shape, as they are written down.
+fn by_the_rules(m: usize, k: usize, b: usize) -> u8 {
+    match (DOCUMENT_PRIMES.contains(&m), (1..=m).contains(&k), (1..=4096).contains(&b)) {
+        (false, _, _) => 1,
+        (true, false, _) => 12,
+        (true, true, false) => 13,
+        (true, true, true) => 0,
+    }
+}
+
+/// The shape check against these.
 fn shapes(test: &mut Test) {
     for m in 0..70_000 {
-        let wanted = if DOCUMENT_PRIMES.contains(&m) { 0 } else { 1 };
-        test.same(|| format!("m={m}"), Shape { m, k: 1, b: 1 }.judge(), wanted);
+        test.same(|| format!("m={m}"), Shape { m, k: 1, b: 1 }.judge(), by_the_rules(m, 1, 1));
     }
     for m in (0..=300).chain([usize::MAX]) {
         for k in (0..=300).chain([usize::MAX]) {
             for b in [0, 1, 2, 4095, 4096, 4097, 65_536, usize::MAX] {
-                let right = (DOCUMENT_PRIMES.contains(&m), (1..=m).contains(&k), (1..=4096).contains(&b));
-                let wanted = match right {
-                    (false, _, _) => 1,
-                    (true, false, _) => 12,
-                    (true, true, false) => 13,
-                    (true, true, true) => 0,
-                };
                 let shape = Shape { m, k, b };
-                test.same(|| format!("shape {shape}"), shape.judge(), wanted);
+                test.same(|| format!("shape {shape}"), shape.judge(), by_the_rules(m, k, b));
             }
         }
     }
@@ -254,8 +256,8 @@ fn images(test: &mut Test) {
                 // m, k and b: no other good shape fits these contents.
                 0..6 => {
                     let half = |at: usize| other[at] as usize + 256 * other[at + 1] as usize;
-                    let number = Shape { m: half(0), k: half(2), b: half(4) }.judge();
-                    if number == FINE { BAD_IMAGE } else { number }
+                    let number = by_the_rules(half(0), half(2), half(4));
+                    if number == 0 { BAD_IMAGE } else { number }
                 }
                 6..48 => BAD_IMAGE,
                 _ => FINE,

@@ -139,10 +139,10 @@ impl Tally {
 
     fn plain(&mut self, word: &str, shape: Shape, stripe: &[u8]) {
         self.shape(shape);
-        self.faults(word, &PLAIN_ORDER, &faults(shape, &Map::new(), stripe, &[], 0));
+        self.add_faults(word, &PLAIN_ORDER, &faults(shape, &Map::new(), stripe, &[], 0));
     }
 
-    fn faults(&mut self, word: &str, order: &[u8], found: &[u8]) {
+    fn add_faults(&mut self, word: &str, order: &[u8], found: &[u8]) {
         for faults in together(order) {
             if faults.iter().all(|number| found.contains(number)) { self.add(faults_cell(word, &faults)); }
         }
@@ -152,7 +152,7 @@ impl Tally {
         self.add(format!("{word} fault {}", image::contents(bytes).fault));
         if let Some([m, k, b, fourth]) = image::header(bytes) {
             let found = shape_faults(Shape { m, k, b }).into_iter().chain([(BAD_IMAGE, fourth != 0)]);
-            self.faults(word, &HEADER_ORDER, &holding(found));
+            self.add_faults(word, &HEADER_ORDER, &holding(found));
         }
     }
 
@@ -168,7 +168,7 @@ impl Tally {
 
     fn restored(&mut self, shape: Shape, map: &Map, stripe: &[u8], bench: &[u8], number: u8) {
         self.shape(shape);
-        self.faults("restore", &RESTORE_ORDER, &faults(shape, map, stripe, bench, 0));
+        self.add_faults("restore", &RESTORE_ORDER, &faults(shape, map, stripe, bench, 0));
         if ![FINE, TOO_MANY_ABSENT, NONE_FITS].contains(&number) { return; }
         let absent = map.absent(shape);
         let refused = if number == NONE_FITS { " refused 5" } else { "" };
@@ -219,7 +219,7 @@ impl Tally {
             Request::Restore(shape, map, stripe, bench) => self.restored(*shape, map, stripe, bench, number),
             Request::Show(shape, map, stripe, bench, column) => {
                 self.shape(*shape);
-                self.faults("show", &SHOW_ORDER, &faults(*shape, map, stripe, bench, *column));
+                self.add_faults("show", &SHOW_ORDER, &faults(*shape, map, stripe, bench, *column));
                 match answer[..] {
                     [0, 0, ..] => self.add("show stripe"),
                     [0, 1, 0, _] => self.add("show first-half"),

@@ -1,5 +1,5 @@
-// The document's cases C1 to C11, and its shapes, as lines of text; each function answers the place after its lines. C1 is the stripe of m = 3,
-// k = 3, b = 1 with the data 01 02, 04 08, 10 20.
+// The document's cases C1 to C11, as lines of text; each function answers the place after its lines, which have a greatest length. C1 is the stripe of m = 3,
+// k = 3, b = 1 with the data 01 02, 04 08, 10 20. Right and wrong shapes stand in `shapes`.
 mod shapes;
 
 use evenodd::Map;

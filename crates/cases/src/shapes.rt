@@ -1,4 +1,4 @@
-// Shapes, each by a check of zeros: numbers at their edges, wrong together, and large.
+// Shapes, each by a check of zeros: numbers at their edges, wrong together, and large; as lines of text.
 use say::check_line;
 
 // A check of n zeros, at most 24,582.

@@ -3,7 +3,7 @@
 --   mIn, kIn, bIn image          the three numbers of its shape
 --   badHeader image              8: it has under eight bytes, or its fourth number is not zero
 --   malformed m k b image        8: no map makes it a well-formed image of that shape
---   contentsRules image          the refusals of `contents`, in order: 8; those of the shape: 1, 12, 13; 8
+--   contentsRules image          the refusals of `contents`, in order: 8, then `shapeRules` (1, 12, 13), then 8
 --   readRules image n            the refusals of `read` into a stripe of n bytes: those of `contents`, then 2
 --   verdictOf r                  the verdict of an answer
 --   mOf r, kOf r, bOf r          the shape of an answer: 0 0 0 where it is refused

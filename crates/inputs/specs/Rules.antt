@@ -11,7 +11,8 @@
 --   wrongK m k                    12: k is 0 or above m
 --   wrongB b                      13: b is 0 or above 4,096
 -- 8 stands with the shelf image's format, and 10 with the program. The orders:
---   shapeRules     1, 12, 13: the order of every call begins with them
+--   shapeRules     1, 12, 13: asked first by every call that is given a shape, and by the readers of an image of its header. They let exactly
+--                  the shapes pass (`ShapesPass`)
 --   stripeRules    1, 12, 13, 2: encode and check
 --   mendRules      1, 12, 13, 2, 6
 --   lentRules      1, 12, 13, 2, 3, 9: what a map, a stripe and a bench are asked first

@@ -1,7 +1,7 @@
 -- The tests that the calls share. n is the length of a stripe, and w that of a bench.
---   JudgesStripe            refused by `stripeRules`: three numbers, and a stripe
---   JudgesLent              refused by `lentRules`: and a bench and a map
---   JudgesGaps              refused by `gapRules`: and that at most two columns are absent, with which they are
+--   JudgesStripe            three numbers and a stripe, by `stripeRules`
+--   JudgesLent              these, a bench and a map, by `lentRules`
+--   JudgesGaps              these, and that at most two columns are absent, by `gapRules`, with which they are
 --   verdictOf, refusalOf    the verdict of an answer of the last, and the refusal that it carries
 --   GoodGaps                what it gives: the bytes of a column, and the gaps below k + 2
 use mathlib.Core.Path.{_≡_}

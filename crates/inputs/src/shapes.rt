@@ -20,7 +20,7 @@ pub enum Refusal {
 }
 
 impl Refusal {
-    // The refusal's number: 1 to 10, 12 or 13.
+    // The refusal's number: 1 to 10, 12 or 13, and no other.
     pub fn number(self) -> u8
         ensures { λ r. ⌜ r ≡ numberOf self ⌝ }
     {

@@ -1,4 +1,4 @@
-// Runs every number that the document gives to hold against the build, and prints what the library answers, one line each. What is printed is
+// Runs every number that the document gives to hold against the build, and more of wrong shapes, and prints what the library answers, one line each. What is printed is
 // compared with the stored text.
 mod others;
 
@@ -24,7 +24,7 @@ fn other_cases(out: &mut [u8], at: usize) -> usize {
 fn image_cases(out: &mut [u8], at: usize) -> usize {
     let a = others::image_lines(out, at);
     let b = others::wrong_numbers(out, a);
-    others::wrong_pairs(out, b)
+    others::headers(out, b)
 }
 
 fn main() {

@@ -1,4 +1,4 @@
-// The document's other cases, most of them about the stripe of C1.
+// The document's other cases, most of them about the stripe of C1, and wrong shapes beside other faults and in images.
 use cases::five;
 use say::check_line;
 use say::contents_line;
@@ -29,24 +29,24 @@ pub(crate) fn places(out: &mut [u8], at: usize) -> usize {
     show_line(out, first, b"place=5", [3, 3, 1], stray, &c1, &bench, 0)
 }
 
-// A wrong number of the shape with a bench of another length.
+// One wrong number of the shape, beside a bench of another length.
 pub(crate) fn shapes_and_benches(out: &mut [u8], at: usize) -> usize {
     let c1 = [1u8, 2, 4, 8, 16, 32, 21, 42, 57, 30];
     let mut short = [161u8];
     let map = five();
-    let m = restore_line(out, at, b"m+bench", [2, 3, 1], map, &c1, &mut short);
+    let m = restore_line(out, at, b"m+bench", [9, 3, 1], map, &c1, &mut short);
     let k = restore_line(out, m, b"k+bench", [3, 4, 1], map, &c1, &mut short);
     restore_line(out, k, b"b+bench", [3, 3, 0], map, &c1, &mut short)
 }
 
-// And with a stripe of another length, or with a place and a column that the shape does not have.
+// One wrong number of the shape, beside a stripe of another length, or a place and a column from k + 2 on.
 pub(crate) fn shapes_and_lengths(out: &mut [u8], at: usize) -> usize {
     let mut c1 = [1u8, 2, 4, 8, 16, 32, 21, 42, 57, 30];
     let bench = [161u8, 162, 163, 164];
     let k = encode_line(out, at, b"k+length", 3, 4, 1, &mut c1);
     let b = mend_line(out, k, b"b+length", 3, 3, 4097, &mut c1);
     let map = five();
-    let stray = map.mark_present(5);
+    let stray = map.mark_present(6);
     show_line(out, b, b"k+column", [3, 4, 1], stray, &c1, &bench, 9)
 }
 
@@ -151,14 +151,14 @@ fn header_lines(out: &mut [u8], at: usize, name: &[u8], header: [u8; 8]) -> usiz
 
 // Images with one wrong number of the shape.
 pub(crate) fn wrong_numbers(out: &mut [u8], at: usize) -> usize {
-    let m = header_lines(out, at, b"image,m=2", [2, 0, 3, 0, 1, 0, 0, 0]);
+    let m = header_lines(out, at, b"image,m=9", [9, 0, 3, 0, 1, 0, 0, 0]);
     let k = header_lines(out, m, b"image,k=4", [3, 0, 4, 0, 1, 0, 0, 0]);
     header_lines(out, k, b"image,b=0", [3, 0, 3, 0, 0, 0, 0, 0])
 }
 
-// With two of them, with one beside a wrong fourth number, and with none.
-pub(crate) fn wrong_pairs(out: &mut [u8], at: usize) -> usize {
-    let a = header_lines(out, at, b"image,m=2,k=0", [2, 0, 0, 0, 1, 0, 0, 0]);
+// Images with two wrong numbers of the shape, with one beside a wrong fourth number, and with none, that end after the header.
+pub(crate) fn headers(out: &mut [u8], at: usize) -> usize {
+    let a = header_lines(out, at, b"image,m=9,k=0", [9, 0, 0, 0, 1, 0, 0, 0]);
     let b = header_lines(out, a, b"image,k=4,b=0", [3, 0, 4, 0, 0, 0, 0, 0]);
     let c = header_lines(out, b, b"image,b=0,fourth", [3, 0, 3, 0, 0, 0, 1, 0]);
     header_lines(out, c, b"image,k=3", [3, 0, 3, 0, 1, 0, 0, 0])

@@ -1,6 +1,6 @@
 -- Laws of a shape.
 --   accepted-prime, prime-accepted   the table, as the rule on m
---   odd-prime-of                     whether a number is one of them is decided
+--   odd-prime-of                     whether a number is an odd prime up to 127 is decided
 --   whole-stripe                     the bytes of a stripe, by those of a column
 --   column-most, places-most, parts-most    what is computed from a shape fits a number
 use mathlib.Core.Path.{_≡_, refl, sym, ap, _∙_}

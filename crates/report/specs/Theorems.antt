@@ -1,7 +1,7 @@
 -- What follows from the promises of the report. Each statement is a type, which proofs/Theorems inhabits.
 --   JudgesImageOne   two judgements that meet the promise are equal, and so are the stripe and the bench after them
 --   ReportsOne       two reports that meet the promise are equal: the length, `out`, the stripe and the bench, and what was judged
---   AnswerAlone      of an image whose contents are refused, by 8 or a number of its shape (1, 12, 13), the text is the answer line alone
+--   AnswerAlone      of an image whose contents are refused, with 8, 1, 12 or 13, the text is the answer line alone
 --   Enough           a stripe of 49,056 bytes and a bench of 32,704 are enough for every image: the refusals 2 and 3 are never given
 use mathlib.Core.Path.{_≡_}
 use mathlib.Core.Logic.{_≢_}
