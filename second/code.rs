@@ -4,6 +4,7 @@ use std::ops::Range;
 
 pub const PLACES: usize = 129;
 pub const NO_COLUMN: usize = 129;
+pub const NO_PLACE: usize = 129;
 
 pub const FINE: u8 = 0;
 pub const WRONG_M: u8 = 1;
@@ -18,6 +19,7 @@ pub const STRAY_PLACE: u8 = 9;
 pub const INPUT_TOO_LONG: u8 = 10;
 pub const WRONG_K: u8 = 12;
 pub const WRONG_B: u8 = 13;
+pub const LYING_MAP: u8 = 17;
 
 /// Three shape numbers as handed in. The methods other than `judge` are for numbers that were accepted.
 #[derive(Clone, Copy, PartialEq, Debug)]
@@ -52,29 +54,80 @@ impl Shape {
     fn real(self, row: usize, column: usize) -> bool { row < self.m - 1 && column < self.k }
 }
 
-/// The presence map: true is present.
+/// The presence map: its places, where true is present, and what it says of them, how many are present and which is
+/// the highest present one. A map made of parts may say what its places do not bear out.
 #[derive(Clone, Copy, PartialEq, Debug)]
-pub struct Map(pub [bool; PLACES]);
+pub struct Map { pub places: [bool; PLACES], pub present: usize, pub highest: usize }
+
+/// How many places are absent, and the two lowest of them.
+#[derive(Clone, Copy, PartialEq, Debug)]
+pub struct Gaps { pub absent: usize, pub first: usize, pub second: usize }
 
 impl Map {
-    pub fn new() -> Map { Map([false; PLACES]) }
-    pub fn all_but(columns: usize, absent: &[usize]) -> Map {
-        let mut map = Map::new();
-        (0..columns).for_each(|c| map.0[c] = !absent.contains(&c));
-        map
+    pub fn new() -> Map { Map::counted([false; PLACES]) }
+    /// The map of these places that says what they are.
+    pub fn counted(places: [bool; PLACES]) -> Map {
+        let present = places.iter().filter(|&&present| present).count();
+        let highest = places.iter().rposition(|&present| present).unwrap_or(NO_PLACE);
+        Map { places, present, highest }
     }
-    pub fn absent(&self, shape: Shape) -> Vec<usize> { (0..shape.columns()).filter(|&c| !self.0[c]).collect() }
-    pub fn has_stray(&self, shape: Shape) -> bool { self.0[shape.columns()..].iter().any(|&present| present) }
+    pub fn from_parts(places: [bool; PLACES], present: usize, highest: usize) -> Map {
+        Map { places, present, highest }
+    }
+    /// 1 is present, any other byte is absent.
+    pub fn from_bytes(bytes: [u8; PLACES]) -> Map { Map::counted(bytes.map(|byte| byte == 1)) }
+    pub fn all_but(columns: usize, absent: &[usize]) -> Map {
+        let mut places = [false; PLACES];
+        (0..columns).for_each(|c| places[c] = !absent.contains(&c));
+        Map::counted(places)
+    }
+    /// Whether what the map says is what its places are.
+    pub fn is_true(&self) -> bool { *self == Map::counted(self.places) }
+
+    // The questions look at the places alone.
+    pub fn is_present(&self, place: usize) -> bool { place < PLACES && self.places[place] }
+    pub fn bytes(&self) -> [u8; PLACES] { self.places.map(|present| present as u8) }
+    /// Whether a place is present that is at or above the limit.
+    pub fn strays(&self, limit: usize) -> bool { (limit..PLACES).any(|place| self.places[place]) }
+    fn absent_below(&self, limit: usize) -> Vec<usize> {
+        (0..PLACES.min(limit)).filter(|&place| !self.places[place]).collect()
+    }
+    /// The absent ones of the places below the limit.
+    pub fn gaps(&self, limit: usize) -> Gaps {
+        let absent = self.absent_below(limit);
+        let nth = |n: usize| absent.get(n).copied().unwrap_or(NO_PLACE);
+        Gaps { absent: absent.len(), first: nth(0), second: nth(1) }
+    }
+
+    pub fn absent(&self, shape: Shape) -> Vec<usize> { self.absent_below(shape.columns()) }
+    pub fn has_stray(&self, shape: Shape) -> bool { self.strays(shape.columns()) }
 }
 
 pub struct Marked { pub number: u8, pub map: Map }
 
+/// The numbers of a true map are stepped and not counted again.
 pub fn mark(map: Map, place: usize, present: bool) -> Marked {
+    if !map.is_true() { return Marked { number: LYING_MAP, map }; }
+    if place >= PLACES { return Marked { number: BAD_NUMBER, map }; }
     let mut map = map;
-    if place >= PLACES {
-        return Marked { number: BAD_NUMBER, map };
+    match (map.places[place], present) {
+        (false, true) => {
+            map.present += 1;
+            if map.highest == NO_PLACE || map.highest < place { map.highest = place; }
+        }
+        (true, false) => {
+            map.present -= 1;
+            // When the highest goes, the next one below it takes its part.
+            if map.present == 0 {
+                map.highest = NO_PLACE;
+            } else if map.highest == place {
+                map.highest -= 1;
+                while !map.places[map.highest] { map.highest -= 1; }
+            }
+        }
+        _ => {}
     }
-    map.0[place] = present;
+    map.places[place] = present;
     Marked { number: FINE, map }
 }
 
@@ -182,6 +235,7 @@ fn judge_plain(shape: Shape, stripe: &[u8]) -> u8 {
 fn judge_with_map(shape: Shape, map: &Map, stripe: &[u8], bench: &[u8]) -> u8 {
     match judge_plain(shape, stripe) {
         FINE if bench.len() != shape.bench_length() => BAD_BENCH,
+        FINE if !map.is_true() => LYING_MAP,
         FINE if map.has_stray(shape) => STRAY_PLACE,
         number => number,
     }

@@ -7,7 +7,7 @@ use crate::requests::Request;
 
 pub struct Case { pub request: Request, pub expected: Option<u8> }
 
-struct Random(u64);
+pub struct Random(pub u64);
 
 impl Random {
     fn next(&mut self) -> u64 {
@@ -17,8 +17,8 @@ impl Random {
         z = (z ^ (z >> 27)).wrapping_mul(0x94d0_49bb_1331_11eb);
         z ^ (z >> 31)
     }
-    fn below(&mut self, limit: usize) -> usize { (self.next() % limit as u64) as usize }
-    fn one_of<T: Copy>(&mut self, list: &[T]) -> T { list[self.below(list.len())] }
+    pub fn below(&mut self, limit: usize) -> usize { (self.next() % limit as u64) as usize }
+    pub fn one_of<T: Copy>(&mut self, list: &[T]) -> T { list[self.below(list.len())] }
     fn byte(&mut self) -> u8 { self.next() as u8 }
     fn nonzero(&mut self) -> u8 { 1 + self.below(255) as u8 }
     fn bytes(&mut self, count: usize) -> Vec<u8> { (0..count).map(|_| self.byte()).collect() }
@@ -45,6 +45,13 @@ pub const BAD_M: [usize; 36] = [
 ];
 pub const BAD_K: [usize; 8] = [0, 128, 129, 257, 65_537, (1 << 32) + 1, MAX - 1, MAX];
 pub const BAD_B: [usize; 8] = [0, 4097, 4098, 8192, 65_535, 65_537, (1 << 32) + 1, MAX];
+
+/// Values of k that `gaps` is asked for beside a drawn one below 125 and a large one.
+pub const GAP_KS: [usize; 9] = [0, 1, 125, 126, 127, 128, 129, MAX - 1, MAX];
+/// Maps that `gaps` is asked of. Those with few gaps have them below k+2, and `above` has nothing present there.
+const GAP_MAPS: [&str; 9] = ["none", "all", "only-0", "only-128", "drawn", "no-gap", "one-gap", "two-gaps", "above"];
+/// These are asked of for every k from 0 to 130.
+const EVERY_GAP_MAPS: [&str; 4] = ["drawn", "no-gap", "two-gaps", "above"];
 
 pub const PATTERNS: [&str; 9] = ["none", "data", "H", "D", "data+data", "data+H", "data+D", "H+D", "three-or-more"];
 pub const AT_MOST_ONE: [&str; 4] = ["none", "data", "H", "D"];
@@ -111,7 +118,10 @@ enum Recipe {
     Plain(fn(Shape, Vec<u8>) -> Request, Vec<u8>, Damage),
     Restore(Vec<u8>, &'static str, Damage),
     Show(Vec<u8>, &'static str),
+    /// A mend with cells of this size, which few of the drawn shapes have.
+    LongCells(usize),
     Mark(bool),
+    Gaps,
     Contents(Vec<Flaw>, &'static str),
     /// The last says whether the lent stripe has the right length.
     Read(Vec<Flaw>, &'static str, bool),
@@ -144,9 +154,13 @@ fn code_recipes() -> Vec<Recipe> {
     }
     list.extend(alone_and_together(&RESTORE_ORDER).into_iter().map(|faults| Recipe::Restore(faults, "any", None)));
     list.extend(alone_and_together(&SHOW_ORDER).into_iter().map(|faults| Recipe::Show(faults, "any")));
+    list.extend([1000, 4096].map(Recipe::LongCells));
     list.extend([Recipe::Mark(true), Recipe::Mark(true), Recipe::Mark(false)]);
     list
 }
+
+/// About 4 of 100 requests.
+fn gap_recipes() -> Vec<Recipe> { (0..22).map(|_| Recipe::Gaps).collect() }
 
 fn image_recipes() -> Vec<Recipe> {
     let mut list = vec![Recipe::Contents(vec![], "far"), Recipe::Read(vec![], "any", false)];
@@ -166,23 +180,32 @@ fn image_recipes() -> Vec<Recipe> {
     list
 }
 
-pub struct Maker { random: Random, primes: Vec<usize>, size_turn: usize, prime_turn: usize, bad_turns: [usize; 3] }
+pub struct Maker {
+    random: Random,
+    primes: Vec<usize>,
+    size_turn: usize,
+    prime_turn: usize,
+    bad_turns: [usize; 3],
+    gap_turn: usize,
+}
 
 struct Scene { shape: Shape, map: Map, stripe: Vec<u8>, bench: Vec<u8> }
 
 impl Maker {
     pub fn new(seed: u64) -> Maker {
         let primes = (3..=127).filter(|&m| is_odd_prime(m)).collect();
-        Maker { random: Random(seed), primes, size_turn: 0, prime_turn: 0, bad_turns: [0; 3] }
+        Maker { random: Random(seed), primes, size_turn: 0, prime_turn: 0, bad_turns: [0; 3], gap_turn: 0 }
     }
 
     pub fn cases(mut self, count: usize) -> impl Iterator<Item = Case> {
-        let recipes: Vec<Recipe> = [code_recipes(), code_recipes(), image_recipes()].into_iter().flatten().collect();
+        let recipes = [code_recipes(), gap_recipes(), code_recipes(), image_recipes()];
+        let recipes: Vec<Recipe> = recipes.into_iter().flatten().collect();
         (0..count).map(move |n| self.make(&recipes[n % recipes.len()]))
     }
 
     /// At each of several small shapes: every set of at most two absent columns, of a valid stripe and with each
-    /// present column wrong, and a mend of every single wrong column. Then a few requests at large shapes.
+    /// present column wrong, and a mend of every single wrong column. Then a few requests at large shapes, and the gaps
+    /// of a few maps for every k from 0 to 130.
     pub fn every_pattern(mut self) -> Vec<Request> {
         let mut requests = Vec::new();
         for (m, k, b) in SMALL {
@@ -213,6 +236,9 @@ impl Maker {
         }
         let (m, k, b) = WIDE;
         requests.extend(self.wide(Shape { m, k, b }));
+        for k in 0..=130 {
+            requests.extend(EVERY_GAP_MAPS.map(|kind| Request::Gaps(k, self.gap_map(kind, k))));
+        }
         requests
     }
 
@@ -428,6 +454,51 @@ impl Maker {
         Map::all_but(columns, &absent)
     }
 
+    /// Places in a row: all absent, drawn one by one, or all present.
+    fn fill(&mut self, places: &mut [bool]) {
+        let way = self.random.below(3);
+        places.iter_mut().for_each(|state| *state = way == 2 || way == 1 && self.random.below(2) == 0);
+    }
+
+    fn gap_k(&mut self, turn: usize) -> usize {
+        match turn % (GAP_KS.len() + 2) {
+            n if n < GAP_KS.len() => GAP_KS[n],
+            n if n == GAP_KS.len() => 2 + self.random.below(123),
+            // Cut to fewer bits, most of these would be a usual k.
+            _ => self.random.one_of(&[130, 256, 65_536, 1 << 32, 1 << 63]) + self.random.below(126),
+        }
+    }
+
+    fn gap_map(&mut self, kind: &str, k: usize) -> Map {
+        let columns = k.saturating_add(2).min(PLACES);
+        let last = columns - 1;
+        let drawn = self.random.below(columns);
+        let [low, high] = self.random.two(columns);
+        let mut places = [false; PLACES];
+        let (below, above) = places.split_at_mut(columns);
+        match kind {
+            "only-0" => places[0] = true,
+            "only-128" => places[PLACES - 1] = true,
+            "all" => places.fill(true),
+            "drawn" => places.iter_mut().for_each(|state| *state = self.random.below(2) == 0),
+            "above" => self.fill(above),
+            "no-gap" | "one-gap" | "two-gaps" => {
+                below.fill(true);
+                self.fill(above);
+                match kind {
+                    "one-gap" => below[self.random.one_of(&[0, drawn, last])] = false,
+                    "two-gaps" => {
+                        let pair = self.random.one_of(&[[0, last], [low, high], [low, high], [last - 1, last]]);
+                        pair.into_iter().for_each(|place| below[place] = false);
+                    }
+                    _ => {}
+                }
+            }
+            _ => {}
+        }
+        Map::counted(places)
+    }
+
     fn bad_length(&mut self, bytes: &mut Vec<u8>, column: usize) {
         let (was, filler) = (bytes.len(), self.random.byte());
         let now = match self.random.below(8) {
@@ -483,7 +554,8 @@ impl Maker {
         if shape.k != good.k { map = self.map(columns, has(4)); }
         if has(9) {
             let drawn = columns + self.random.below(PLACES - columns);
-            map.0[self.random.one_of(&[columns, PLACES - 1, drawn])] = true;
+            map.places[self.random.one_of(&[columns, PLACES - 1, drawn])] = true;
+            map = Map::counted(map.places);
         }
         // Where a bad shape still has small products, the lengths follow it.
         let column = shape.m.wrapping_sub(1).wrapping_mul(shape.b);
@@ -521,7 +593,7 @@ impl Maker {
             Recipe::Show(faults, pattern) => {
                 let s = self.scene(faults, pattern, Damage::None);
                 let columns = s.shape.k.saturating_add(2);
-                let absent: Vec<usize> = (0..columns.min(PLACES)).filter(|&place| !s.map.0[place]).collect();
+                let absent: Vec<usize> = (0..columns.min(PLACES)).filter(|&place| !s.map.is_present(place)).collect();
                 let column = if faults.contains(&7) {
                     self.random.one_of(&[0, 0, columns + 1, 128, 129, 256, MAX]).max(columns)
                 } else if !absent.is_empty() && self.random.below(2) == 0 {
@@ -533,14 +605,28 @@ impl Maker {
                 let expected = if number == FINE && absent.len() > 2 { TOO_MANY_ABSENT } else { number };
                 Case { request: Request::Show(s.shape, s.map, s.stripe, s.bench, column), expected: Some(expected) }
             }
+            Recipe::LongCells(b) => {
+                let shape = Shape { m: 3, k: 1 + self.random.below(2), b: *b };
+                let mut stripe = self.valid_stripe(shape);
+                self.damage(shape, &mut stripe, Damage::OneColumn);
+                Case { request: Request::Mend(shape, stripe), expected: Some(FINE) }
+            }
             Recipe::Mark(good) => {
-                let mut map = Map::new();
-                let way = self.random.below(3);
-                map.0.iter_mut().for_each(|state| *state = way == 2 || way == 1 && self.random.below(2) == 0);
+                let mut states = [false; PLACES];
+                self.fill(&mut states);
+                let map = Map::counted(states);
                 let low = self.random.below(PLACES);
                 let places = if *good { [low, low, 0, 128] } else { [129, 130, 256 + low, MAX] };
                 let request = Request::Mark(map, self.random.one_of(&places), self.random.below(2) == 0);
                 Case { request, expected: Some(if *good { FINE } else { BAD_NUMBER }) }
+            }
+            // Eleven kinds of k and nine of maps: after 99 turns each was met with each.
+            Recipe::Gaps => {
+                let turn = self.gap_turn;
+                self.gap_turn += 1;
+                let k = self.gap_k(turn);
+                let map = self.gap_map(GAP_MAPS[turn % GAP_MAPS.len()], k);
+                Case { request: Request::Gaps(k, map), expected: Some(FINE) }
             }
             Recipe::Contents(flaws, pattern) => {
                 let (image, number, _) = self.image(flaws, pattern, Damage::None);

@@ -27,20 +27,20 @@ fn judge(image: &[u8]) -> Result<(Shape, Map), (u8, &'static str)> {
     }
     let mut body = 8 + 8 * shape.columns();
     if image.len() < body { return Err((BAD_IMAGE, "contents-cut")); }
-    let mut map = Map::new();
+    let mut places = [false; PLACES];
     for (column, entry) in image[8..body].chunks(8).enumerate() {
         if little_endian(&entry[0..2]) != column { return Err((BAD_IMAGE, "column")); }
         if entry[2] > 1 { return Err((BAD_IMAGE, "state")); }
         if entry[3] != 0 { return Err((BAD_IMAGE, "pad")); }
-        map.0[column] = entry[2] == 1;
-        let expected = if map.0[column] { body } else { 0 };
+        places[column] = entry[2] == 1;
+        let expected = if places[column] { body } else { 0 };
         if little_endian(&entry[4..8]) != expected { return Err((BAD_IMAGE, "offset")); }
-        if map.0[column] { body += shape.column_length(); }
+        if places[column] { body += shape.column_length(); }
     }
     match image.len() {
         length if length < body => Err((BAD_IMAGE, "body-cut")),
         length if length > body => Err((BAD_IMAGE, "trailing")),
-        _ => Ok((shape, map)),
+        _ => Ok((shape, Map::counted(places))),
     }
 }
 
@@ -61,7 +61,7 @@ pub fn read(image: &[u8], stripe: &mut [u8]) -> Contents {
     if found.number != FINE { return found; }
     if stripe.len() != shape.stripe_length() { return refused(BAD_STRIPE, "none"); }
     let mut bodies = image[8 + 8 * shape.columns()..].chunks(shape.column_length());
-    for column in (0..shape.columns()).filter(|&c| found.map.0[c]) {
+    for column in (0..shape.columns()).filter(|&c| found.map.is_present(c)) {
         stripe[shape.column(column)].copy_from_slice(bodies.next().expect("the image was judged"));
     }
     found

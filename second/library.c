@@ -1,6 +1,7 @@
 /* Answers the requests of the second program with the library, through its C interface. Reads one request a line from standard
    input and writes one answer a line. Every buffer that is lent stands between guard bytes; a guard that changed is reported and
-   ends the run. Marks and contents are no calls of the C interface: their requests are answered with an empty line. */
+   ends the run. Marks and contents are no calls of the C interface: their requests are answered with an empty line. A map is
+   handed over as its places alone. */
 #include <stdint.h>
 #include <stdio.h>
 #include <stdlib.h>
@@ -109,6 +110,11 @@ static void answer(char **f)
         printf("%u %zu %zu %zu", r, from, start, length);
         done(s);
         done(w);
+    } else if (strcmp(f[0], "gaps") == 0) {
+        size_t present = 77, highest = 77, absent = 77, first = 77, second = 77;
+        map_of(f[2], places);
+        unsigned r = oarwillow_gaps(number(f[1]), places, &present, &highest, &absent, &first, &second);
+        printf("%u %zu %zu %zu %zu %zu", r, present, highest, absent, first, second);
     } else if (strcmp(f[0], "read") == 0) {
         Buffer image = buffer(f[1]), s = buffer(f[2]);
         memset(places, 77, sizeof places);

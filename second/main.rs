@@ -3,6 +3,7 @@
 mod code;
 mod generate;
 mod image;
+mod lies;
 mod numbers;
 mod requests;
 mod selftest;
@@ -16,6 +17,7 @@ const USAGE: &str = "usage: model shelf < image
        model numbers
        model asked
        model expected
+       model lies
        model selftest
        model answer < requests
        model tally < requests
@@ -64,6 +66,12 @@ fn run(arguments: &[&str], out: &mut impl Write) -> io::Result<bool> {
                 if number.request.is_some() {
                     writeln!(out, "{}", number.expected)?;
                 }
+            }
+            Ok(true)
+        }
+        ["lies"] => {
+            for line in lies::lines() {
+                writeln!(out, "{line}")?;
             }
             Ok(true)
         }

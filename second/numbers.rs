@@ -1,4 +1,4 @@
-//! The numbers of the document, as requests with the answers the document gives, and more about wrong shapes.
+//! The numbers of the document, as requests with the answers the document gives, and more about wrong shapes and gaps.
 
 use crate::code::*;
 use crate::image::shelf;
@@ -13,7 +13,7 @@ pub struct Number {
 }
 
 const MAX: usize = usize::MAX;
-const C1: &str = "010204081020152a391e";
+pub const C1: &str = "010204081020152a391e";
 const C1_05: &str = "010205081020152a391e";
 const C3: &str = "00000000000000010100010100000001010101000001000101010001";
 const C9: &str = "01020408150a191e";
@@ -133,6 +133,12 @@ pub fn all() -> Vec<Number> {
         ask("length=11", format!("encode 3 3 1 {C1}00"), format!("2 {C1}00")),
         ask("place=5", format!("restore 3 3 1 {stray} {C1} a1a2a3a4"), s("9 0 129 129 a1a2a3a4")),
         ask("place=5", format!("show 3 3 1 {stray} {C1} a1a2a3a4 0"), s("9 0 0 0")),
+        ask("gaps,C5", format!("gaps 3 {cols_134}"), s("0 3 4 2 0 2")),
+        ask("gaps,none", format!("gaps 3 {}", present(&[])), s("0 0 129 5 0 1")),
+        ask("gaps,all,k=127", format!("gaps 127 {}", "1".repeat(PLACES)), s("0 129 128 0 129 129")),
+        ask("gaps,128,k=126", format!("gaps 126 {}", present(&[128])), s("0 1 128 128 0 1")),
+        ask("gaps,128,k=127", format!("gaps 127 {}", present(&[128])), s("0 1 128 128 0 1")),
+        ask("gaps,k=max", format!("gaps {MAX} {}0", "1".repeat(PLACES - 1)), s("0 128 127 1 128 129")),
         ask("m+bench", format!("restore 9 3 1 {map} {C1} a1"), s("1 0 129 129 a1")),
         ask("k+bench", format!("restore 3 4 1 {map} {C1} a1"), s("12 0 129 129 a1")),
         ask("b+bench", format!("restore 3 3 0 {map} {C1} a1"), s("13 0 129 129 a1")),

@@ -11,6 +11,7 @@ pub enum Request {
     Mend(Shape, Vec<u8>),
     Show(Shape, Map, Vec<u8>, Vec<u8>, usize),
     Mark(Map, usize, bool),
+    Gaps(usize, Map),
     Read(Vec<u8>, Vec<u8>),
     Contents(Vec<u8>),
 }
@@ -57,14 +58,15 @@ fn state_of(text: &str) -> Option<bool> {
 
 fn map_of(text: &str) -> Option<Map> {
     if text.len() != PLACES || !text.bytes().all(|c| c == b'0' || c == b'1') { return None; }
-    let mut map = Map::new();
-    text.bytes().enumerate().for_each(|(place, c)| map.0[place] = c == b'1');
-    Some(map)
+    let mut places = [false; PLACES];
+    text.bytes().enumerate().for_each(|(place, c)| places[place] = c == b'1');
+    Some(Map::counted(places))
 }
 
+/// The places alone.
 impl fmt::Display for Map {
     fn fmt(&self, f: &mut fmt::Formatter) -> fmt::Result {
-        f.write_str(&self.0.iter().map(|&present| if present { '1' } else { '0' }).collect::<String>())
+        f.write_str(&self.places.iter().map(|&present| if present { '1' } else { '0' }).collect::<String>())
     }
 }
 
@@ -84,6 +86,7 @@ impl fmt::Display for Request {
                 write!(f, "{word} {n} {map} {} {} {column}", field(s), field(bench))
             }
             Mark(map, place, state) => write!(f, "{word} {map} {place} {}", *state as u8),
+            Gaps(k, map) => write!(f, "{word} {k} {map}"),
             Read(image, s) => write!(f, "{word} {} {}", field(image), field(s)),
             Contents(image) => write!(f, "{word} {}", field(image)),
         }
@@ -99,6 +102,7 @@ impl Request {
             Mend(..) => "mend",
             Show(..) => "show",
             Mark(..) => "mark",
+            Gaps(..) => "gaps",
             Read(..) => "read",
             Contents(..) => "contents",
         }
@@ -121,6 +125,7 @@ impl Request {
                 Show(shape()?, map, bytes_of(parts[5])?, bytes_of(parts[6])?, column)
             }
             ("mark", 4) => Mark(map_of(parts[1])?, number_of(parts[2])?, state_of(parts[3])?),
+            ("gaps", 3) => Gaps(number_of(parts[1])?, map_of(parts[2])?),
             ("read", 3) => Read(bytes_of(parts[1])?, bytes_of(parts[2])?),
             ("contents", 2) => Contents(bytes_of(parts[1])?),
             _ => return None,
@@ -156,6 +161,10 @@ impl Request {
             Mark(map, place, state) => {
                 let done = mark(*map, *place, *state);
                 format!("{} {}", done.number, done.map)
+            }
+            Gaps(k, map) => {
+                let (map, gaps) = (Map::counted(map.places), map.gaps(k.saturating_add(2)));
+                format!("{FINE} {} {} {} {} {}", map.present, map.highest, gaps.absent, gaps.first, gaps.second)
             }
             Read(image, stripe) => {
                 let mut stripe = stripe.clone();

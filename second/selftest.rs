@@ -1,8 +1,9 @@
 //! Tests: the document's numbers, exhaustive searches on small stripes, and the generator's own knowledge.
 
 use crate::code::*;
-use crate::generate::{IMAGE_KINDS, Maker};
+use crate::generate::{IMAGE_KINDS, Maker, Random};
 use crate::image;
+use crate::lies;
 use crate::numbers;
 use crate::requests::{Request, bytes_of};
 use std::fmt::Debug;
@@ -219,6 +220,9 @@ fn generated(test: &mut Test) {
             if let (Request::Mend(shape, stripe) | Request::Check(shape, stripe), FINE) = (&request, number) {
                 lanes(test, *shape, stripe);
             }
+            if let Request::Contents(bytes) | Request::Read(bytes, _) = &request {
+                keeps_true(test, "contents", &image::contents(bytes).map);
+            }
         }
         for (turn, (bytes, expected)) in Maker::new(seed).shelf_images(2 * IMAGE_KINDS).enumerate() {
             let text = image::shelf(&bytes);
@@ -271,13 +275,279 @@ fn images(test: &mut Test) {
     test.same(|| "read refused".to_string(), (done.number, done.shape, done.map, stripe), wanted);
 }
 
+const MAX: usize = usize::MAX;
+const RESTORE_ORDER: [u8; 9] = [1, 12, 13, 2, 3, 17, 9, 4, 5];
+const SHOW_ORDER: [u8; 9] = [1, 12, 13, 2, 3, 17, 9, 7, 4];
+
+/// How many places are present and which is the highest, place by place.
+fn by_the_places(places: &[bool; 129]) -> (usize, usize) {
+    let (mut present, mut highest) = (0, 129);
+    for place in 0..129 {
+        if places[place] {
+            present += 1;
+            highest = place;
+        }
+    }
+    (present, highest)
+}
+
+fn keeps_true(test: &mut Test, what: &str, map: &Map) {
+    test.same(|| format!("{what}: numbers of {map}"), (map.present, map.highest), by_the_places(&map.places));
+    test.same(|| format!("{what}: truth of {map}"), map.is_true(), true);
+}
+
+/// Places that are all absent, all present below a limit, or between.
+fn some_places(random: &mut Random) -> [bool; 129] {
+    let (percent, limit) = (random.one_of(&[0, 1, 1, 5, 50, 95, 99, 100]), random.one_of(&[1, 6, 128, 129, 129]));
+    let mut places = [false; 129];
+    places[..limit].iter_mut().for_each(|state| *state = random.below(100) < percent);
+    places
+}
+
+/// Every kind of false numbers for these places: too small, too large, alike in the low bits, or the other's.
+fn false_maps(places: [bool; 129]) -> Vec<Map> {
+    let (present, highest) = by_the_places(&places);
+    let near = |n: usize| {
+        let more = [1, 2, 256, 1 << 16, 1 << 32, 1 << 63].map(|by| n.wrapping_add(by));
+        [&[n, n.wrapping_sub(1), present, highest, 0, 1, 127, 128, 129, 130, MAX - 1, MAX][..], &more].concat()
+    };
+    let mut maps = Vec::new();
+    for count in near(present) {
+        maps.extend(near(highest).into_iter().map(|top| Map::from_parts(places, count, top)));
+    }
+    maps.retain(|map| (map.present, map.highest) != (present, highest));
+    maps
+}
+
+/// Walks of marks, often of the same few places, from a new map and from drawn ones.
+fn walks(test: &mut Test, random: &mut Random) {
+    for turn in 0..60 {
+        let mut map = if turn % 2 == 0 { Map::new() } else { Map::counted(some_places(random)) };
+        keeps_true(test, "start", &map);
+        for _ in 0..400 {
+            let (any, low) = (random.below(129), random.below(5));
+            let place = random.one_of(&[any, low, 128 - low, 129 + low, MAX - low, map.highest]);
+            let present = random.below(2) == 0;
+            let done = mark(map, place, present);
+            let mut places = map.places;
+            if place < 129 { places[place] = present; }
+            let about = || format!("mark {place} {present} of {map}");
+            test.same(about, done.number, if place < 129 { 0 } else { 7 });
+            test.same(about, done.map.places, places);
+            keeps_true(test, "mark", &done.map);
+            if place >= 129 { test.same(about, done.map, map); }
+            let twice = mark(done.map, place, present);
+            test.same(about, (twice.number, twice.map), (done.number, done.map));
+            map = done.map;
+        }
+    }
+}
+
+/// A false map is refused by every mark and handed back as it came, and its questions look at the places.
+fn false_maps_alone(test: &mut Test, random: &mut Random) {
+    for _ in 0..12 {
+        let places = some_places(random);
+        let sound = Map::counted(places);
+        let limits: Vec<usize> = (0..=131).chain([256, MAX - 1, MAX]).collect();
+        let answers = |map: &Map| {
+            let of = |&limit: &usize| (map.is_present(limit), map.strays(limit), map.gaps(limit));
+            (limits.iter().map(of).collect::<Vec<_>>(), map.bytes(), map.to_string())
+        };
+        let wanted = answers(&sound);
+        for (&limit, got) in limits.iter().zip(&wanted.0) {
+            let stray = (0..129).any(|place| places[place] && place >= limit);
+            test.same(|| format!("{limit} in {sound}"), (got.0, got.1), (limit < 129 && places[limit], stray));
+        }
+        for map in false_maps(places) {
+            let about = || format!("false map {} {} {map}", map.present, map.highest);
+            test.same(about, map.is_true(), false);
+            let drawn = random.below(129);
+            for place in [0, drawn, 128, 129, MAX] {
+                for present in [false, true] {
+                    let once = mark(map, place, present);
+                    let twice = mark(once.map, place, present);
+                    test.same(about, (once.number, once.map), (17, map));
+                    test.same(about, (twice.number, twice.map), (17, map));
+                }
+            }
+            test.same(about, answers(&map), wanted.clone());
+            test.same(about, Map::from_bytes(map.bytes()), sound);
+        }
+    }
+}
+
+/// What is handed in with exactly these faults, save that a wrong shape brings wrong lengths along, and that a stripe
+/// which nothing fits is not looked at when three columns are absent. The map is true.
+fn with_faults(faults: &[u8]) -> (Shape, Map, Vec<u8>, Vec<u8>, usize) {
+    let has = |number: u8| faults.contains(&number);
+    let good = Shape { m: 5, k: 4, b: 2 };
+    let mut stripe: Vec<u8> = (0..good.stripe_length()).map(|n| (37 * n + 5) as u8).collect();
+    encode(good, &mut stripe);
+    if has(5) { stripe[good.stripe_length() - 1] ^= 1; }
+    if has(2) { stripe.pop(); }
+    let bench = vec![0x5a; good.bench_length() + has(3) as usize];
+    let mut map = Map::all_but(good.columns(), if has(4) { &[0, 2, 3] } else { &[1] });
+    if has(9) { map.places[20] = true; }
+    let (m, k, b) = (if has(1) { 9 } else { 5 }, if has(12) { 10 } else { 4 }, if has(13) { 0 } else { 2 });
+    (Shape { m, k, b }, Map::counted(map.places), stripe, bench, if has(7) { 20 } else { 1 })
+}
+
+/// Every set of faults, and with each the map true or false in every way.
+fn false_maps_in_order(test: &mut Test) {
+    const OTHERS: [u8; 9] = [1, 12, 13, 2, 3, 9, 7, 4, 5];
+    for set in 0..1 << OTHERS.len() {
+        let faults: Vec<u8> = (0..OTHERS.len()).filter(|n| set >> n & 1 == 1).map(|n| OTHERS[n]).collect();
+        let (shape, sound, stripe, bench, column) = with_faults(&faults);
+        for map in false_maps(sound.places).into_iter().chain([sound]) {
+            let all = if map == sound { faults.clone() } else { [&faults[..], &[17]].concat() };
+            let first = |order: &[u8]| order.iter().copied().find(|number| all.contains(number)).unwrap_or(0);
+            let about = || format!("faults {all:?}, map says {} {}", map.present, map.highest);
+            let mut written = bench.clone();
+            let done = restore(shape, &map, &stripe, &mut written);
+            let wanted = match first(&RESTORE_ORDER) {
+                0 => (0, 1, 1, 129),
+                number => (number, 0, 129, 129),
+            };
+            test.same(about, (done.number, done.count, done.first, done.second), wanted);
+            test.same(about, written == bench, wanted.0 != 0);
+            let done = show(shape, &map, &stripe, &bench, column);
+            let wanted = match first(&SHOW_ORDER) {
+                0 => (0, true, 0, 8),
+                number => (number, false, 0, 0),
+            };
+            test.same(about, (done.number, done.from_bench, done.start, done.length), wanted);
+        }
+    }
+}
+
+/// The answer to a request for gaps, from the highest place down, so that the last two met are the lowest.
+fn gaps_by_the_places(k: usize, places: &[bool; 129]) -> String {
+    let (present, highest) = by_the_places(places);
+    let (mut absent, mut first, mut second) = (0, 129, 129);
+    for place in (0..129).rev() {
+        if (k >= 127 || place <= k + 1) && !places[place] {
+            absent += 1;
+            (first, second) = (place, first);
+        }
+    }
+    format!("0 {present} {highest} {absent} {first} {second}")
+}
+
+fn gaps(test: &mut Test, random: &mut Random) {
+    let ks: Vec<usize> = (0..=131).chain([255, 256, 257, 65_536, 1 << 32, 1 << 63, MAX - 2, MAX - 1, MAX]).collect();
+    for _ in 0..60 {
+        let places = some_places(random);
+        for &k in &ks {
+            let line = format!("gaps {k} {}", Map::counted(places));
+            let request = Request::parse(&line).expect("the request is written rightly");
+            test.same(|| "text".to_string(), &request.to_string(), &line);
+            test.same(|| line.clone(), request.answer(), gaps_by_the_places(k, &places));
+        }
+    }
+    let none = "0".repeat(129);
+    for rest in ["".to_string(), none.clone(), format!("18446744073709551616 {none}"), format!("3 {none}0")] {
+        test.same(|| format!("malformed gaps {rest}"), Request::parse(&format!("gaps {rest}")).is_none(), true);
+    }
+}
+
+/// The rest of the line that starts with these words.
+fn line_of<'a>(lines: &'a [String], start: &str) -> &'a str {
+    let mut found = lines.iter().filter_map(|line| line.strip_prefix(start)?.strip_prefix(' '));
+    found.next().unwrap_or("no such line")
+}
+
+/// The lines of `lies`: the true cases by hand, the false ones by the true case of the same places.
+fn lines_of_lies(test: &mut Test) {
+    let lines = lies::lines();
+    test.same(|| "lines".to_string(), lines.len(), 7 * 30 + 10 + 15 + 3);
+    let refused = |number: u8| (format!("{number} 0 129 129 a1a2a3a4"), format!("{number} 0 0 0"));
+    let answered = |restored: &str, shown: &str| (restored.to_string(), shown.to_string());
+    let sound = [
+        ("five", answered("0 0 129 129 a1a2a3a4", "0 0 0 2")),
+        ("none", refused(4)),
+        ("stray", refused(9)),
+        ("two", answered("0 2 0 1 01020408", "0 1 0 2")),
+        ("three", refused(4)),
+        ("all", refused(9)),
+        ("last", refused(9)),
+    ];
+    for (name, places, count, highest) in lies::CASES {
+        let about = || format!("case {name}");
+        let said = |word: &str| line_of(&lines, &format!("{name} {word}"));
+        let map = lies::map_of(places.clone(), count, highest);
+        let short = |number: usize| if number > 9_999 { "far".to_string() } else { number.to_string() };
+        let unchanged = format!("{} {} {map}", short(count), short(highest));
+        let is_sound = by_the_places(&map.places) == (count, highest);
+        test.same(about, sound.iter().any(|(other, _)| *other == name), is_sound);
+        test.same(about, said("true"), if is_sound { "1" } else { "0" });
+        let by_hand = sound.iter().find(|(other, _)| *other == name);
+        let (restored, shown) = by_hand.map_or(refused(17), |(_, answers)| answers.clone());
+        test.same(about, (said("restore"), said("show")), (&restored[..], &shown[..]));
+        test.same(about, said("present-129"), &format!("{} {unchanged}", if is_sound { 7 } else { 17 }));
+        for (word, place, present) in [("present-0", 0, true), ("absent-4", 4, false)] {
+            let mut after = map.places;
+            after[place] = present;
+            let (count, highest) = by_the_places(&after);
+            let changed = format!("0 {count} {highest} {}", Map::counted(after));
+            test.same(about, said(word), &if is_sound { changed } else { format!("17 {unchanged}") });
+        }
+        let sister = lies::CASES.into_iter().find(|other| other.1 == places).expect("its own places").0;
+        test.same(about, said("questions"), line_of(&lines, &format!("{sister} questions")));
+    }
+    let faults = [("m", 1), ("k", 12), ("b", 13), ("length", 2), ("bench", 3), ("column", 17), ("stray", 17)];
+    for (fault, number) in faults {
+        let name = if fault == "stray" { "column+lie+stray".to_string() } else { format!("{fault}+lie") };
+        let bench = if fault == "bench" { "a1" } else { "a1a2a3a4" };
+        let (restored, shown) = (format!("{number} 0 129 129 {bench}"), format!("{number} 0 0 0"));
+        let wanted = match fault {
+            "k" | "b" => (&restored[..], "no such line"),
+            "m" | "length" | "bench" => (&restored[..], &shown[..]),
+            _ => ("no such line", &shown[..]),
+        };
+        let got = (line_of(&lines, &format!("{name} restore")), line_of(&lines, &format!("{name} show")));
+        test.same(|| name.clone(), got, wanted);
+    }
+    let map = |present: &[usize]| Map::counted(std::array::from_fn(|place| present.contains(&place))).to_string();
+    let steps: [(u8, usize, usize, &[usize]); 15] = [
+        (0, 1, 3, &[3]), (0, 1, 3, &[3]), (0, 2, 3, &[1, 3]), (0, 1, 1, &[1]), (0, 1, 1, &[1]),
+        (0, 0, 129, &[]), (0, 0, 129, &[]),
+        (0, 1, 128, &[128]), (0, 2, 128, &[0, 128]), (0, 1, 0, &[0]), (0, 0, 129, &[]),
+        (7, 0, 129, &[]), (7, 0, 129, &[]), (7, 0, 129, &[]), (7, 0, 129, &[]),
+    ];
+    for (n, (number, count, highest, present)) in steps.into_iter().enumerate() {
+        let wanted = format!("walk {} {number} {count} {highest} {}", lies::WALK[n], map(present));
+        test.same(|| format!("walk {n}"), &lines[7 * 30 + 10 + n], &wanted);
+    }
+    let ends = [
+        format!("fill 0 129 128 {}", "1".repeat(129)),
+        format!("empty 0 1 128 {}1", "0".repeat(128)),
+        format!("empty -128 0 0 129 {}", "0".repeat(129)),
+    ];
+    test.same(|| "fill and empty".to_string(), &lines[7 * 30 + 10 + 15..], &ends[..]);
+}
+
+fn maps(test: &mut Test) {
+    let mut random = Random(17);
+    keeps_true(test, "new", &Map::new());
+    let bytes: [u8; 129] = std::array::from_fn(|place| [0, 1, 2, 255, 129, 1][place % 6]);
+    let wanted: [bool; 129] = std::array::from_fn(|place| place % 6 == 1 || place % 6 == 5);
+    test.same(|| "bytes".to_string(), Map::from_bytes(bytes).places, wanted);
+    keeps_true(test, "bytes", &Map::from_bytes(bytes));
+    walks(test, &mut random);
+    false_maps_alone(test, &mut random);
+    false_maps_in_order(test);
+    gaps(test, &mut random);
+    lines_of_lies(test);
+}
+
 pub fn run(out: &mut impl Write) -> io::Result<bool> {
-    let groups: [(&str, fn(&mut Test)); 6] = [
+    let groups: [(&str, fn(&mut Test)); 7] = [
         ("document", document),
         ("shapes", shapes),
         ("searches", searches),
         ("ranks", ranks),
         ("images", images),
+        ("maps", maps),
         ("generated", generated),
     ];
     let mut good = true;

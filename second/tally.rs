@@ -2,20 +2,22 @@
 
 use crate::code::*;
 use crate::generate::{
-    AT_MOST_ONE, BAD_B, BAD_K, BAD_M, HEADER_ORDER, PATTERNS, PLAIN_ORDER, RESTORE_ORDER, SHOW_ORDER, SIZES, together,
+    AT_MOST_ONE, BAD_B, BAD_K, BAD_M, GAP_KS, HEADER_ORDER, PATTERNS, PLAIN_ORDER, RESTORE_ORDER, SHOW_ORDER, SIZES,
+    together,
 };
 use crate::image;
 use crate::requests::Request;
 use std::collections::BTreeMap;
 use std::io::{self, BufRead, Write};
 
-const ANSWERS: [(&str, &[u8]); 8] = [
+const ANSWERS: [(&str, &[u8]); 9] = [
     ("encode", &[0, 1, 2, 12, 13]),
     ("check", &[0, 1, 2, 12, 13]),
     ("restore", &[0, 1, 2, 3, 4, 5, 9, 12, 13]),
     ("mend", &[0, 1, 2, 6, 12, 13]),
     ("show", &[0, 1, 2, 3, 4, 7, 9, 12, 13]),
     ("mark", &[0, 7]),
+    ("gaps", &[0]),
     ("read", &[0, 1, 2, 8, 12, 13]),
     ("contents", &[0, 1, 8, 12, 13]),
 ];
@@ -39,6 +41,14 @@ const SINGLE: [&str; 22] = [
     "mark changed", "mark same",
     "k=1", "k=m", "1<k<m", "refused k=m+1", "refused m+1<k<128",
     "contents far",
+];
+
+/// Of a request for gaps beside its k, where that is one of the named.
+const GAPS: [&str; 15] = [
+    "k ordinary", "k large",
+    "map none", "map all", "map some", "map only 0", "map only 128",
+    "highest 129", "highest 128", "highest below k+2", "highest at or above k+2",
+    "absent 0", "absent 1", "absent 2", "absent more",
 ];
 
 const IMAGE_FAULTS: [&str; 13] = [
@@ -66,6 +76,8 @@ fn expected_cells() -> Vec<String> {
     cells.extend(BAD_B.iter().map(|b| format!("refused b={b}")));
     cells.extend((3..=127).filter(|&m| is_odd_prime(m)).map(|m| format!("m={m}")));
     cells.extend(SIZES.iter().map(|b| format!("b={b}")));
+    cells.extend(GAP_KS.iter().map(|k| format!("gaps k={k}")));
+    cells.extend(GAPS.iter().map(|name| format!("gaps {name}")));
     for word in ["read", "contents"] {
         cells.extend(IMAGE_FAULTS.iter().map(|fault| format!("{word} fault {fault}")));
     }
@@ -100,7 +112,7 @@ fn holding(faults: impl IntoIterator<Item = (u8, bool)>) -> Vec<u8> {
 fn faults(shape: Shape, map: &Map, stripe: &[u8], bench: &[u8], column: usize) -> Vec<u8> {
     let length = shape.m.wrapping_sub(1).wrapping_mul(shape.b);
     let columns = shape.k.saturating_add(2);
-    let (inside, outside) = map.0.split_at(columns.min(PLACES));
+    let (inside, outside) = map.places.split_at(columns.min(PLACES));
     let none_fits = || {
         let clean = Map::all_but(columns, &map.absent(shape));
         restore(shape, &clean, stripe, &mut vec![0; shape.bench_length()]).number == NONE_FITS
@@ -181,6 +193,29 @@ impl Tally {
         }
     }
 
+    fn gaps(&mut self, k: usize, map: &Map, answer: &[usize]) {
+        match k {
+            k if GAP_KS.contains(&k) => self.add(format!("gaps k={k}")),
+            0..=129 => self.add("gaps k ordinary"),
+            _ => self.add("gaps k large"),
+        }
+        let only = |place: usize| (0..PLACES).all(|other| map.places[other] == (other == place));
+        match map.places.iter().filter(|&&present| present).count() {
+            0 => self.add("gaps map none"),
+            PLACES => self.add("gaps map all"),
+            _ => self.add("gaps map some"),
+        }
+        if only(0) { self.add("gaps map only 0"); }
+        if only(PLACES - 1) { self.add("gaps map only 128"); }
+        let (highest, absent) = (answer[2], answer[3]);
+        if highest >= PLACES - 1 { self.add(format!("gaps highest {highest}")); }
+        if highest < PLACES {
+            let inside = highest < k.saturating_add(2);
+            self.add(if inside { "gaps highest below k+2" } else { "gaps highest at or above k+2" });
+        }
+        self.add(if absent > 2 { "gaps absent more".to_string() } else { format!("gaps absent {absent}") });
+    }
+
     fn mended(&mut self, shape: Shape, stripe: &[u8], answer: &[usize]) {
         let Shape { m, k, b } = shape;
         match answer {
@@ -231,6 +266,7 @@ impl Tally {
                 let same = mark(*map, *place, *state).map == *map;
                 self.add(if same { "mark same" } else { "mark changed" });
             }
+            Request::Gaps(k, map) => self.gaps(*k, map, &answer),
             Request::Read(bytes, _) => self.image("read", bytes),
             Request::Contents(bytes) => {
                 self.image("contents", bytes);

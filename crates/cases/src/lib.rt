@@ -14,10 +14,11 @@ ghost use mathlib.Core.Path.{_≡_};
 ghost use Prim.Native.Nat.{ℕ, _+_, _≤_};
 ghost use lib.Dec.{ltb};
 ghost use Rattle.parity.specs.Presence.{present};
+ghost use Rattle.inputs.specs.Truth.{TrueMap};
 
 // The map of the five columns of C1, all present.
 pub fn five() -> Map
-    ensures { λ r. ⌜ ((t : ℕ) → present (r .places) t ≡ ltb t 5) ⌝ }
+    ensures { λ r. ⌜ ((t : ℕ) → present (r .places) t ≡ ltb t 5) × TrueMap r ⌝ }
 {
     Map::new()
         .mark_present(0)

@@ -81,7 +81,7 @@ one-or-nothing m k b map s before after r a p = go decided
     decided : Gives (tooManyAbsent k map ∷ contradicted m k b map s ∷ []) (verdictOf r)
     decided =
         gives-rest (lentRules m k b map (length s) (length before)) (tooManyAbsent k map ∷ contradicted m k b map s ∷ []) (verdictOf r)
-        (lent-passed m k b (length s) map (length before) (record { shape = a .shape; stripe = a .stripe .whole; held = a .held; clear = a .clear })) (p .told)
+        (lent-passed m k b (length s) map (length before) (record { shape = a .shape; stripe = a .stripe .whole; held = a .held; truth = a .truth; clear = a .clear })) (p .told)
 
     -- the verdict of a refusal that r is
     verdict : {f : Refusal} → r ≡ restored.Refused f → verdictOf r ≡ refuse f
@@ -123,17 +123,17 @@ one-or-nothing m k b map s before after r a p = go decided
 
 pub restore-gives-back : RestoreGivesBack
 unfolding RestoreGivesBack AtMostOne
-restore-gives-back m k b map fresh s lost before after (restored.Columns n f g) enc same agrees held clear few p =
+restore-gives-back m k b map fresh s lost before after (restored.Columns n f g) enc same agrees held truth clear few p =
     let (h, _) = stripe-given m k b (length fresh) (enc .told) in
     let u = p .restored refl in
     let e : u .stripe ≡ s = at-most-one m k b h (map .places) few lost (u .stripe) s (u .valid) (enc .written .0) (u .agrees) (agrees-back m k b (map .places) s lost agrees) in
     record { passed = refl; bench = rw e at (u .bench) }
-restore-gives-back m k b map fresh s lost before after (restored.Refused r) enc same agrees held clear few p =
+restore-gives-back m k b map fresh s lost before after (restored.Refused r) enc same agrees held truth clear few p =
     let (h, _) = stripe-given m k b (length fresh) (enc .told) in
     let size : length lost ≡ _ = same ∙ enc .written .0 .stripe .whole in
     absurd (passes-not r (gives-one (restoreRules m k b map lost (length before)) _ _
     (gives-after (gapRules m k b map (length lost) (length before)) (contradicted m k b map lost ∷ []) pass
-    (gaps-passed m k b (length lost) map (length before) (record { shape = h; stripe = size; held = held; clear = clear }) few)
+    (gaps-passed m k b (length lost) map (length before) (record { shape = h; stripe = size; held = held; truth = truth; clear = clear }) few)
     (gives-next (λ c. c s (enc .written .0) (agrees-back m k b (map .places) s lost agrees)) refl))
     (p .told)))
 

@@ -29,17 +29,20 @@ use Rattle.inputs.specs.declared.shapes.Refusal.the-variants.{NoSuchColumn, Amb
 use Rattle.inputs.specs.Refusals.{pass, refuse, Rule, Gives}
 use Rattle.inputs.specs.Shapes.{refusalOf}
 use Rattle.inputs.specs.Absent.{Stray, absentBelow, Counts}
+use Rattle.inputs.specs.Truth.{TrueMap, absentByCount}
 use Rattle.inputs.specs.Rules.{noSuchColumn, tooManyAbsent, lentRules, showRules}
 use Rattle.inputs.specs.Tests.{JudgesLent}
 use Rattle.evenodd.specs.Shows.{half, Places}
 use Rattle.inputs.proofs.Rules.{passes-not, gives-first, gives-next, gives-after, gives-passed, passed-first}
 use Rattle.inputs.proofs.Shape.{places-most, parts-most}
 use Rattle.inputs.proofs.Tests.{Lent, lent-given, lent-passed, told-refused}
+use Rattle.inputs.proofs.Truth.{absent-counted}
 
 pub record NotRefused (m k b : ℕ) (map : Map) (s bench : List ℕ) (column : ℕ) : Type 0 where
   pub shape : Shape m k b
   pub stripe : length s ≡ stripeLength m k b
   pub held : length bench ≡ benchLength m b
+  pub truth : TrueMap map
   pub clear : Stray k (map .places) → ⊥
   pub named : column < k + 2
   pub few : absences k (map .places) ≤ 2
@@ -52,7 +55,7 @@ module _ (m k b : ℕ) (map : Map) (s bench : List ℕ) (column : ℕ) where
   pub passes : NotRefused m k b map s bench column → Gives (showRules m k b map (length s) (length bench) column) pass
   passes p =
       gives-after (lentRules m k b map (length s) (length bench)) (lastRules k map column) pass
-      (lent-passed m k b (length s) map (length bench) (record { shape = p .shape; stripe = p .stripe; held = p .held; clear = p .clear }))
+      (lent-passed m k b (length s) map (length bench) (record { shape = p .shape; stripe = p .stripe; held = p .held; truth = p .truth; clear = p .clear }))
       (gives-next (λ h. omega arith) (gives-next (λ h. omega arith) refl))
 
   pub not-refused : Gives (showRules m k b map (length s) (length bench) column) pass → NotRefused m k b map s bench column
@@ -61,7 +64,7 @@ module _ (m k b : ℕ) (map : Map) (s bench : List ℕ) (column : ℕ) where
       let fits = lent-given m k b (length s) map (length bench) lent in
       let (named, four) = passed-first last in
       let (few, _) = passed-first four in
-      record { shape = fits .shape; stripe = fits .stripe; held = fits .held; clear = fits .clear; named = omega arith; few = omega arith }
+      record { shape = fits .shape; stripe = fits .stripe; held = fits .held; truth = fits .truth; clear = fits .clear; named = omega arith; few = omega arith }
 
 module _ (m k b : ℕ) (map : Map) (s bench : List ℕ) (column : ℕ) where
   pub show-refused : (j : Judged) {f g : Refusal} → JudgesLent m k b map (length s) (length bench) j → j ≡ judged.Refused f → g ≡ refusalOf j
@@ -81,18 +84,23 @@ module _ (m k b : ℕ) (map : Map) (s bench : List ℕ) (column : ℕ) where
     pub show-7 : k + 2 ≤ column → Places m k b map s bench column (Refused NoSuchColumn)
     show-7 h = rules (gives-first h)
 
-    module _ (named : column < k + 2) {g : Gaps} (counts : Counts (k + 2) (map .places) g) where
-      pub show-4 : 2 < g .count → Places m k b map s bench column (Refused Ambiguous)
-      show-4 h = rules (gives-next (λ n. omega arith) (gives-first (let e = absences-below k (map .places) in omega (arith, counts .count))))
+    -- so many columns are absent as the count says
+    counted : absences k (map .places) ≡ absentByCount k map
+    counted = absent-counted map (lent .truth) k (lent .clear) .1
 
-      pub show-named : g .count ≤ 2 → NotRefused m k b map s bench column
+    module _ (named : column < k + 2) where
+      pub show-4 : 2 < absentByCount k map → Places m k b map s bench column (Refused Ambiguous)
+      show-4 h = rules (gives-next (λ n. omega arith) (gives-first (let e = counted in omega arith)))
+
+      pub show-named : absentByCount k map ≤ 2 → NotRefused m k b map s bench column
       show-named h = record {
         shape = lent .numbers .shape;
         stripe = lent .numbers .stripe;
         held = lent .held;
+        truth = lent .truth;
         clear = lent .clear;
         named = named;
-        few = let e = absences-below k (map .places) in omega (arith, counts .count);
+        few = let e = counted in omega arith;
       }
 
 -- an absent column that show names has at most one absent column below it

@@ -17,6 +17,7 @@ use Rattle.inputs.specs.declared.shapes.Refusal.{Refusal}
 use Rattle.inputs.specs.declared.shapes.Refusal.the-variants.{Ambiguous, Contradicted}
 use Rattle.inputs.specs.Refusals.{pass}
 use Rattle.inputs.specs.Absent.{Stray}
+use Rattle.inputs.specs.Truth.{TrueMap}
 use Rattle.evenodd.specs.declared.encodes.Encoded.the-variants as encoded
 use Rattle.evenodd.specs.declared.mends.Mended.{Mended}
 use Rattle.evenodd.specs.declared.mends.Mended.the-variants as mended
@@ -54,11 +55,12 @@ pub record Together (m k b : ℕ) (map : List Bool) (s bench v : List ℕ) : Typ
   pub at : (l i t : ℕ) → l < b → i < m - 1 → t < k + 2
       → byte m b v l i t ≡ cond (present map t) (byte m b s l i t) (byte m b bench l i (half map t))
 
--- a good shape, a stripe and a bench of its lengths, and a map without strays
+-- a good shape, a stripe and a bench of its lengths, and a true map without strays
 pub record Asked (m k b : ℕ) (map : Map) (s bench : List ℕ) : Type 0 where
   pub shape : Shape m k b
   pub stripe : Stripe m k b s
   pub held : length bench ≡ benchLength m b
+  pub truth : TrueMap map
   pub clear : Stray k (map .places) → ⊥
 
 pub record GivesTheOne (m k b : ℕ) (map : List Bool) (s before after : List ℕ) (r : Restored) : Type 0 where
@@ -79,7 +81,7 @@ pub record GivenBack (m b : ℕ) (s before after : List ℕ) (r : Restored) : Ty
 
 unfoldable pub RestoreGivesBack : Type 0
 RestoreGivesBack = (m k b : ℕ) (map : Map) (fresh s lost before after : List ℕ) (r : Restored) → Encodes m k b fresh s encoded.Done
-    → length lost ≡ length s → Agrees m k b (map .places) s lost → length before ≡ benchLength m b → (Stray k (map .places) → ⊥) → absences k (map .places) ≤ 2
+    → length lost ≡ length s → Agrees m k b (map .places) s lost → length before ≡ benchLength m b → TrueMap map → (Stray k (map .places) → ⊥) → absences k (map .places) ≤ 2
     → Restores m k b map lost before after r → GivenBack m b s before after r
 
 unfoldable pub MendGivesBack : Type 0

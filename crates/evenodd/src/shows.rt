@@ -29,12 +29,10 @@ pub fn place_of(
         return Place::Refused(judged.refusal());
     };
     let columns = k + 2;
-    let gaps = map.gaps(columns);
-    let count = gaps.count;
     if columns <= column {
         return Place::Refused(Refusal::NoSuchColumn);
     }
-    if 2 < count {
+    if 2 < columns - map.present() {
         return Place::Refused(Refusal::Ambiguous);
     }
     if map.is_present(column) {
@@ -43,6 +41,7 @@ pub fn place_of(
             length,
         };
     }
+    let gaps = map.gaps(columns);
     if column == gaps.first {
         return Place::InBench { start: 0, length };
     }

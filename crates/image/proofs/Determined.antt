@@ -17,9 +17,10 @@ use Rattle.inputs.specs.declared.maps.Map.{Map}
 use Rattle.inputs.specs.declared.shapes.Refusal.{Refusal}
 use Rattle.inputs.specs.Refusals.{pass, refuse, Gives}
 use Rattle.inputs.specs.Rules.{stripeLengthDiffers}
-use Rattle.inputs.specs.Determined.{NewOne}
+use Rattle.inputs.specs.Determined.{NewOne, TrueMapOne}
+use Rattle.inputs.specs.Truth.{TrueMap}
 use Rattle.inputs.proofs.Rules.{passes-not, passed-first, equal-of, gives-one, gives-passed}
-use Rattle.inputs.proofs.Determined.{new-one}
+use Rattle.inputs.proofs.Determined.{new-one, true-map-one}
 use Rattle.image.specs.declared.answers.Read.{Read}
 use Rattle.image.specs.declared.answers.Read.the-variants as read
 use Rattle.image.specs.Reads.{mIn, kIn, bIn, contentsRules, readRules, verdictOf, kOf, Says, Filled, Fills}
@@ -61,12 +62,12 @@ contents-tell image m k b map r s w c = go (r .answer) (r .map) (c .told) (c .sa
     go (read.Refused f) found told says = absurd (passes-not f (gives-one (contentsRules image) _ _ (formed-passes (formed-header s w) s map w) told))
 
 -- two shapes that the image says are one, and so are the maps
-good-one : {image : List ℕ} {m k b n l d : ℕ} {map other : Map} → Good image m k b (map .places) → Good image n l d (other .places)
+good-one : {image : List ℕ} {m k b n l d : ℕ} {map other : Map} → Good image m k b (map .places) → Good image n l d (other .places) → TrueMap map → TrueMap other
     → (read.Shape m k b ≡ read.Shape n l d) × (map ≡ other)
-unfolding ImageOne
-good-one {image} {m} {k} {b} {n} {l} {d} {map} {other} g h =
+unfolding ImageOne TrueMapOne
+good-one {image} {m} {k} {b} {n} {l} {d} {map} {other} g h x y =
     let (first, second, third, places) = image-one image m k b n l d (map .places) (other .places) (g .shape) (h .shape) (g .formed) (h .formed) in
-    (cc, ap (λ p. record { places = p }) places)
+    (cc, true-map-one map other x y places)
 
 refused-one : {f g : Refusal} → refuse f ≡ refuse g → read.Refused f ≡ read.Refused g
 refused-one e = cc
@@ -79,7 +80,7 @@ contents-one image r q x y =
   where
     go : (a c : Read) (map other : Map) → verdictOf a ≡ verdictOf c → Gives (contentsRules image) (verdictOf a) → Gives (contentsRules image) (verdictOf c)
         → Says image a map → Says image c other → (a ≡ c) × (map ≡ other)
-    go (read.Shape m k b) (read.Shape n l d) map other e u v s t = good-one (good-answer image map u s) (good-answer image other v t)
+    go (read.Shape m k b) (read.Shape n l d) map other e u v s t = good-one (good-answer image map u s) (good-answer image other v t) (s .2) (t .2)
     go (read.Shape m k b) (read.Refused g) map other e u v s t = absurd (passes-not g e)
     go (read.Refused f) (read.Shape n l d) map other e u v s t = absurd (passes-not f (sym e))
     go (read.Refused f) (read.Refused g) map other e u v s t = (refused-one e, new-one map other (s .1) (t .1))
@@ -98,7 +99,7 @@ filled-one {m} {k} {b} {map} {image} {before} {x} {y} s e u v =
     go l i t hl hi ht false p = sym (same-column m b before x t (u .kept t ht p) l i hl hi) ∙ same-column m b before y t (v .kept t ht p) l i hl hi
 
 pub reads-one : ReadsOne
-unfolding ReadsOne NewOne ImageOne
+unfolding ReadsOne NewOne ImageOne TrueMapOne
 reads-one image before x y r q u v =
     let (answer, map, stripe) = go (r .answer) (q .answer) (r .map) (q .map) (gives-one (readRules image (length before)) _ _ (u .told) (v .told)) (u .told) (v .told) (u .fills) (v .fills) in
     (ap₂ (λ a m. record { answer = a; map = m }) answer map, stripe)
@@ -106,9 +107,9 @@ reads-one image before x y r q u v =
     -- the image is well formed, and the stripe has its length
     good : {m k b : ℕ} {map : Map} {after : List ℕ} → Gives (readRules image (length before)) pass → Fills image (read.Shape m k b) map before after
         → Good image m k b (map .places) × (length before ≡ stripeLength m k b)
-    good {map = map} told (own, filled) =
+    good {map = map} told (own, filled, truth) =
         let (first, second) = gives-passed (contentsRules image) (stripeLengthDiffers (mIn image) (kIn image) (bIn image) (length before) ∷ []) told in
-        (good-answer image map first (own, filled .formed), rw (own .first, own .second, own .third) (equal-of _ _ (passed-first second .0)))
+        (good-answer image map first (own, filled .formed, truth), rw (own .first, own .second, own .third) (equal-of _ _ (passed-first second .0)))
 
     go : (a c : Read) (map other : Map) → verdictOf a ≡ verdictOf c → Gives (readRules image (length before)) (verdictOf a) → Gives (readRules image (length before)) (verdictOf c)
         → Fills image a map before x → Fills image c other before y → (a ≡ c) × (map ≡ other) × (x ≡ y)
@@ -116,7 +117,7 @@ reads-one image before x y r q u v =
         let (g, size) = good told s in
         let (h, _) = good again t in
         let (first, second, third, places) = image-one image m k b n l d (map .places) (other .places) (g .shape) (h .shape) (g .formed) (h .formed) in
-        (cc, ap (λ p. record { places = p }) places, filled-one (g .shape) size (s .1) (rw (← first, ← second, ← third, ← places) at (t .1)))
+        (cc, true-map-one map other (s .2) (t .2) places, filled-one (g .shape) size (s .1) (rw (← first, ← second, ← third, ← places) at (t .1)))
     go (read.Shape m k b) (read.Refused g) map other e told again s t = absurd (passes-not g e)
     go (read.Refused f) (read.Shape n l d) map other e told again s t = absurd (passes-not f (sym e))
     go (read.Refused f) (read.Refused g) map other e told again s t = (refused-one e, new-one map other (s .1) (t .1), s .2 ∙ sym (t .2))

@@ -10,13 +10,13 @@ use Prim.Native.Nat.{ℕ, _+_, _*_, _≤_, _<_}
 use native.Mathlib.Numerals.{add-one}
 use native.Mathlib.Nat.{suc-mul, zero-mul, add-zero}
 use native.Mathlib.Omega.{arith}
-use lib.ListN.{getD}
+use lib.ListN.{getD, set, replicate, length-set}
 use borrow.Author.Count.{below-more}
 use borrow.Author.Tests.{eq-eqb, ne-eqb}
 use Rattle.parity.specs.Sum.{count}
 use Rattle.parity.specs.Presence.{present}
-use Rattle.inputs.specs.declared.maps.Map.{Map}
-use Rattle.inputs.specs.Maps.{New, Marks}
+use Rattle.inputs.proofs.Truth.{put-present}
+use Rattle.inputs.proofs.Presence.{new-absent}
 use Rattle.image.specs.declared.table.Table.{Table}
 use Rattle.image.specs.declared.table.State.the-variants.{Present, Absent, Wrong}
 use Rattle.image.specs.Reads.{number2}
@@ -64,15 +64,15 @@ module _ (image : List ℕ) (start column : ℕ) where
   unfolding bodyAt count
   body-absent t e = rw (add-one, e)
 
-  pub walked-none : (map : Map) → New map → WalkedContents image start column 0 (record { right = true; map = map; next = start })
-  walked-none map n = record {
+  pub walked-none : WalkedContents image start column 0 (record { right = true; places = replicate 129 false; next = start })
+  walked-none = record {
     most = omega arith;
     right = λ _. record {
       entries = record { at = λ t h. absurd (omega arith) };
       next = sym body-none;
-      whole = n .whole;
+      whole = refl;
       below = λ t h. absurd (omega arith);
-      clear = λ t h. n .absent t;
+      clear = λ t h. new-absent 129 t;
     };
     wrong = λ e. absurd (true≢false e);
   }
@@ -90,19 +90,23 @@ module _ (image : List ℕ) (start column : ℕ) where
       at = below-more (λ u. RightEntry image u (bodyAt image start column u)) t (r .entries .at) (rw (r .next) at e);
     }
 
-    pub walked-present : (map : Map) → t < 129 → StateOf image t (w .next) Present → Marks true (w .map) t map
-        → WalkedContents image start column (t + 1) (record { right = w .right; map = map; next = w .next + column })
-    walked-present map h s marks = record {
+    pub walked-present : t < 129 → StateOf image t (w .next) Present
+        → WalkedContents image start column (t + 1) (record { right = w .right; places = set (w .places) t true; next = w .next + column })
+    walked-present h s = record {
       most = most-more;
-      right = λ e. let r = walked .right e in record {
-        entries = entries-more r (s .1);
-        next = ap (λ x. x + column) (r .next) ∙ sym (body-present t (s .0));
-        whole = marks .whole;
-        below = below-more (λ u. present (map .places) u ≡ saysPresent image u) t
-            (λ u l. marks .done h u ∙ ap (λ p. cond p true (present (w .map .places) u)) (ne-eqb u t (λ q. omega arith)) ∙ r .below u l)
-            (marks .done h t ∙ ap (λ p. cond p true (present (w .map .places) t)) (eq-eqb t t refl) ∙ sym (s .0));
-        clear = λ u l. marks .done h u ∙ ap (λ p. cond p true (present (w .map .places) u)) (ne-eqb u t (λ q. omega arith)) ∙ r .clear u (omega arith);
-      };
+      right = λ e.
+          let r = walked .right e in
+          let inside = r .whole in
+          let put = put-present (w .places) t (omega arith) true in
+          record {
+            entries = entries-more r (s .1);
+            next = ap (λ x. x + column) (r .next) ∙ sym (body-present t (s .0));
+            whole = rw length-set (r .whole);
+            below = below-more (λ u. present (set (w .places) t true) u ≡ saysPresent image u) t
+                (λ u l. put u ∙ ap (λ p. cond p true (present (w .places) u)) (ne-eqb u t (λ q. omega arith)) ∙ r .below u l)
+                (put t ∙ ap (λ p. cond p true (present (w .places) t)) (eq-eqb t t refl) ∙ sym (s .0));
+            clear = λ u l. put u ∙ ap (λ p. cond p true (present (w .places) u)) (ne-eqb u t (λ q. omega arith)) ∙ r .clear u (omega arith);
+          };
       wrong = wrong-before;
     }
 
@@ -113,14 +117,14 @@ module _ (image : List ℕ) (start column : ℕ) where
         entries = entries-more r (s .1);
         next = r .next ∙ sym (body-absent t (s .0));
         whole = r .whole;
-        below = below-more (λ u. present (w .map .places) u ≡ saysPresent image u) t (r .below) (r .clear t (omega arith) ∙ sym (s .0));
+        below = below-more (λ u. present (w .places) u ≡ saysPresent image u) t (r .below) (r .clear t (omega arith) ∙ sym (s .0));
         clear = λ u l. r .clear u (omega arith);
       };
       wrong = wrong-before;
     }
 
-    pub walked-wrong : (map : Map) → StateOf image t (w .next) Wrong → WalkedContents image start column (t + 1) (record { right = false; map = map; next = w .next })
-    walked-wrong map s = record {
+    pub walked-wrong : (places : List Bool) → StateOf image t (w .next) Wrong → WalkedContents image start column (t + 1) (record { right = false; places = places; next = w .next })
+    walked-wrong places s = record {
       most = let x = most-more in omega arith;
       right = λ e. absurd (false≢true e);
       wrong = λ _ r. go (w .right) refl r;

@@ -1,5 +1,5 @@
 -- What `read` answers, and what it leaves in the stripe.
---   Good, good-answer, good-contents      what is known where the contents say a shape
+--   Good, good-answer, good-contents, good-truth    what is known where the contents say a shape
 --   read-refused, read-length, read-good    what `read` promises, by the way out
 use mathlib.Core.Path.{_≡_, refl, sym, _∙_}
 use mathlib.Core.Logic.{_≢_}
@@ -15,6 +15,7 @@ use Rattle.inputs.specs.declared.shapes.Refusal.the-variants.{StripeLength}
 use Rattle.inputs.specs.Refusals.{pass, refuse, Gives}
 use Rattle.inputs.specs.Rules.{stripeLengthDiffers}
 use Rattle.inputs.specs.Maps.{New}
+use Rattle.inputs.specs.Truth.{TrueMap}
 use Rattle.inputs.proofs.Rules.{gives-first, gives-next, passed-first, gives-refused, gives-after}
 use Rattle.inputs.proofs.Shape.{passed-shape}
 use Rattle.image.specs.declared.answers.Read.the-variants as read
@@ -31,13 +32,17 @@ pub record Good (image : List ℕ) (m k b : ℕ) (map : List Bool) : Type 0 wher
   pub formed : WellFormed m k b map image
 
 pub good-answer : (image : List ℕ) {m k b : ℕ} (map : Map) → Gives (contentsRules image) pass → Says image (read.Shape m k b) map → Good image m k b (map .places)
-good-answer image map told (own, formed) =
+good-answer image map told (own, formed, _) =
     let later = passed-first told .1 in
     let (shape, _) = passed-shape (mIn image) (kIn image) (bIn image) (malformed (mIn image) (kIn image) (bIn image) image ∷ []) later in
     record { own = own; passes = told; shape = rw (own .first, own .second, own .third) shape; formed = formed }
 
 pub good-contents : (image : List ℕ) (r : Contents) {m k b : ℕ} → ContentsOf image r → r .answer ≡ read.Shape m k b → Good image m k b (r .map .places)
 good-contents image r c e = good-answer image (r .map) (rw e at (c .told)) (rw e at (c .says))
+
+-- and its map is true
+pub good-truth : (image : List ℕ) (r : Contents) {m k b : ℕ} → ContentsOf image r → r .answer ≡ read.Shape m k b → TrueMap (r .map)
+good-truth image r c e = rw e at (c .says) .2
 
 module _ (image s : List ℕ) (r : Contents) where
   pub read-refused : {f : Refusal} → ContentsOf image r → r .answer ≡ read.Refused f → ReadInto image s s r
@@ -68,8 +73,8 @@ module _ (image s : List ℕ) (r : Contents) where
       }
 
   pub read-good : {m k b : ℕ} {after : List ℕ} → Good image m k b (r .map .places) → r .answer ≡ read.Shape m k b → length s ≡ stripeLength m k b
-      → CopiedBelow image (r .map .places) (columnLength m b) (k + 2) s after → ReadInto image s after r
-  read-good g e n c = record {
+      → CopiedBelow image (r .map .places) (columnLength m b) (k + 2) s after → TrueMap (r .map) → ReadInto image s after r
+  read-good g e n c truth = record {
     told = rw e (gives-after (contentsRules image) (stripeLengthDiffers (mIn image) (kIn image) (bIn image) (length s) ∷ []) pass (g .passes) (gives-next (λ f. f (rw (g .own .first, g .own .second, g .own .third) at n)) refl));
-    fills = rw e (g .own, filled g c);
+    fills = rw e (g .own, filled g c, truth);
   }

@@ -20,7 +20,8 @@ use Rattle.inputs.specs.declared.shapes.Refusal.the-variants.{Malformed}
 use Rattle.inputs.specs.Refusals.{Verdict, pass, refuse, Gives}
 use Rattle.inputs.specs.Rules.{shapeRules}
 use Rattle.inputs.specs.Shapes.{Judges, refusalOf}
-use Rattle.inputs.specs.Maps.{New}
+use Rattle.inputs.specs.declared.maps.Map.{Map}
+use Rattle.inputs.specs.Maps.{New, OfPlaces}
 use Rattle.inputs.proofs.Rules.{gives-first, gives-next}
 use Rattle.inputs.proofs.Shape.{judged-refused, after-shape}
 use Rattle.image.specs.declared.answers.Read.the-variants as read
@@ -79,10 +80,10 @@ module _ {image : List ℕ} {m k b : ℕ} (h : Header image m k b) where
       ill-length e n map f = n (walked .right e .next ∙ rw q (sym (formed-right shape map image f .size)))
 
       pub contents-good : Bytes image → w .right ≡ true → w .next ≡ length image
-          → ContentsOf image (record { answer = read.Shape m k b; map = w .map })
-      contents-good bytes e n =
+          → {map : Map} → OfPlaces (w .places) map → ContentsOf image (record { answer = read.Shape m k b; map = map })
+      contents-good bytes e n made =
           let r = walked .right e in
-          let formed = right-formed shape image bytes (w .map .places) (r .below) (r .clear) (r .whole) (record {
+          let formed = right-formed shape image bytes (w .places) (r .below) (r .clear) (r .whole) (record {
             first = sym (h .first);
             second = sym (h .second);
             third = sym (h .third);
@@ -91,8 +92,8 @@ module _ {image : List ℕ} {m k b : ℕ} (h : Header image m k b) where
             size = sym n ∙ r .next ∙ ap (λ x. bodyAt image (bodiesAt k) x (k + 2)) q;
           }) in
           record {
-            told = formed-passes (w .map .places) formed;
-            says = (record { first = h .first; second = h .second; third = h .third }, formed);
+            told = formed-passes (w .places) formed;
+            says = (record { first = h .first; second = h .second; third = h .third }, rw (made .same) formed, made .truth);
           }
 
 pub formed-header : {image : List ℕ} {m k b : ℕ} {map : List Bool} → Shape m k b → WellFormed m k b map image → Header image m k b

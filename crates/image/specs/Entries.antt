@@ -57,13 +57,13 @@ StateOf image t next Present = (saysPresent image t ≡ true) × RightEntry imag
 StateOf image t next Absent = (saysPresent image t ≡ false) × RightEntry image t next
 StateOf image t next Wrong = RightEntry image t next → ⊥
 
--- the map has the columns below n that the image says are present
+-- the places below n are present that the image says are
 pub record Reached (image : List ℕ) (start column n : ℕ) (w : Table) : Type 0 where
   pub entries : RightEntries image start column n
   pub next : w .next ≡ bodyAt image start column n
-  pub whole : length (w .map .places) ≡ 129
-  pub below : (t : ℕ) → t < n → present (w .map .places) t ≡ saysPresent image t
-  pub clear : (t : ℕ) → n ≤ t → present (w .map .places) t ≡ false
+  pub whole : length (w .places) ≡ 129
+  pub below : (t : ℕ) → t < n → present (w .places) t ≡ saysPresent image t
+  pub clear : (t : ℕ) → n ≤ t → present (w .places) t ≡ false
 
 pub record WalkedContents (image : List ℕ) (start column n : ℕ) (w : Table) : Type 0 where
   pub most : w .next ≤ start + n * column

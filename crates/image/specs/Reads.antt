@@ -7,7 +7,7 @@
 --   readRules image n            the refusals of `read` into a stripe of n bytes: those of `contents`, then 2
 --   verdictOf r                  the verdict of an answer
 --   mOf r, kOf r, bOf r          the shape of an answer: 0 0 0 where it is refused
---   ContentsOf image r           r is what the image says of its shape and of its columns. Refused, it is shape 0 0 0 and a new map.
+--   ContentsOf image r           r is what the image says of its shape and of its columns, with a true map. Refused, it is shape 0 0 0 and a new map.
 --   Filled                       the stripe after the read: present columns have their bodies' bytes, absent ones the bytes that they had
 --   ReadInto image before after r    r is what the image says, and the stripe is filled. Refused, no byte of it changes.
 use mathlib.Core.Path.{_≡_}
@@ -22,6 +22,7 @@ use Rattle.inputs.specs.declared.shapes.Refusal.the-variants.{Malformed}
 use Rattle.inputs.specs.Refusals.{Verdict, pass, refuse, Rule, Gives}
 use Rattle.inputs.specs.Rules.{stripeLengthDiffers, shapeRules}
 use Rattle.inputs.specs.Maps.{New}
+use Rattle.inputs.specs.Truth.{TrueMap}
 use Rattle.image.specs.declared.answers.Read.{Read}
 use Rattle.image.specs.declared.answers.Read.the-variants.{Shape, Refused}
 use Rattle.image.specs.declared.answers.Contents.{Contents}
@@ -77,7 +78,7 @@ abbrev pub OwnShape : List ℕ → Read → Type 0
 OwnShape image r = ShapeIs r (mIn image) (kIn image) (bIn image)
 
 abbrev pub Says : List ℕ → Read → Map → Type 0
-Says image (Shape m k b) map = OwnShape image (Shape m k b) × WellFormed m k b (map .places) image
+Says image (Shape m k b) map = OwnShape image (Shape m k b) × WellFormed m k b (map .places) image × TrueMap map
 Says image (Refused f) map = ShapeIs (Refused f) 0 0 0 × New map
 
 pub record ContentsOf (image : List ℕ) (r : Contents) : Type 0 where
@@ -91,7 +92,7 @@ pub record Filled (m k b : ℕ) (map : List Bool) (image before after : List ℕ
   pub kept : (t : ℕ) → t < k + 2 → present map t ≡ false → differs m b before after t ≡ false
 
 abbrev pub Fills : List ℕ → Read → Map → List ℕ → List ℕ → Type 0
-Fills image (Shape m k b) map before after = OwnShape image (Shape m k b) × Filled m k b (map .places) image before after
+Fills image (Shape m k b) map before after = OwnShape image (Shape m k b) × Filled m k b (map .places) image before after × TrueMap map
 Fills image (Refused f) map before after = ShapeIs (Refused f) 0 0 0 × New map × (after ≡ before)
 
 pub record ReadInto (image before after : List ℕ) (r : Contents) : Type 0 where

@@ -42,7 +42,8 @@ pub fn contents(image: &[u8]) -> Contents
     if table.next != image.len() {
         return Contents::refused(Refusal::Malformed);
     }
-    let map = table.map;
+    let places = table.places;
+    let map = Map::of_places(places);
     Contents {
         answer: Read::Shape { m, k, b },
         map,

@@ -1,7 +1,6 @@
 // The table of contents: each entry is held against what it must be.
 use crate::numbers::four;
 use crate::numbers::two;
-use evenodd::Map;
 ghost use Prim.Native.Nat.{ℕ, _+_, _*_, _≤_, _<_};
 ghost use lib.ListN.{length};
 ghost use Rattle.image.specs.Entries.{entryAt, StateOf, WalkedContents};
@@ -13,10 +12,10 @@ enum State {
     Wrong,
 }
 
-// What is known after some entries: whether each is right, which columns are present, and where the next body begins.
+// What is known after some entries: whether each is right, which places are present, and where the next body begins.
 pub(crate) struct Table {
     pub(crate) right: bool,
-    pub(crate) map: Map,
+    pub(crate) places: [bool; 129],
     pub(crate) next: usize,
 }
 
@@ -55,18 +54,21 @@ impl Table {
         ensures { λ r. ⌜ ((start : ℕ) → WalkedContents (now (image .entry)) start column t self → WalkedContents (now (image .entry)) start column (t + 1) r) ⌝ }
     {
         let right = self.right;
-        let map = self.map;
+        let mut places = self.places;
         let next = self.next;
         match state_of(image, t, next) {
-            State::Present => Self {
-                right,
-                map: map.mark_present(t),
-                next: next + column,
-            },
+            State::Present => {
+                places[t] = true;
+                Self {
+                    right,
+                    places,
+                    next: next + column,
+                }
+            }
             State::Absent => self,
             State::Wrong => Self {
                 right: false,
-                map,
+                places,
                 next,
             },
         }
@@ -77,10 +79,9 @@ impl Table {
         requires { ⌜ (entryAt columns ≤ length (now image)) × (columns ≤ 129) × (column ≤ 516096) ⌝ }
         ensures { λ r. ⌜ WalkedContents (now (image .entry)) (entryAt columns) column columns r ⌝ }
     {
-        let map = Map::new();
         let mut table = Self {
             right: true,
-            map,
+            places: [false; 129],
             next: 8 + 8 * columns,
         };
         for t in 0..columns {

@@ -3,7 +3,7 @@
 --   filled-none, filled-more    none are asked; one more is written
 --   as-number                   a mark as a byte
 --   of-bytes, as-bytes          all 129 are written
-use mathlib.Core.Path.{_≡_, refl, _∙_}
+use mathlib.Core.Path.{_≡_, refl, ap, _∙_}
 use mathlib.Core.Logic.{by-cases}
 use mathlib.Core.Bool.{Bool, true, false, cond}
 use mathlib.Core.List.{List}
@@ -16,7 +16,7 @@ use lib.Seq.{getD-set-same, getD-set-other}
 use mir.Val.{boolByte}
 use Rattle.parity.specs.Presence.{present}
 use Rattle.inputs.specs.declared.maps.Map.{Map}
-use Rattle.inputs.specs.Maps.{OfBytes, AsBytes}
+use Rattle.inputs.specs.Maps.{OfPlaces, OfBytes, AsBytes}
 
 pub record FilledTo {A : Type 0} (d : A) (f : ℕ → A) (n : ℕ) (xs : List A) : Type 0 where
   pub whole : length xs ≡ 129
@@ -37,10 +37,10 @@ pub as-number : (t : Bool) → boolByte t ≡ cond t 1 0
 as-number true = refl
 as-number false = refl
 
-pub of-bytes : (bytes : List ℕ) (places : List Bool) (n : ℕ) → FilledTo false (λ t. eqb (getD bytes t 0) 1) n places → 129 ≤ n
-    → OfBytes bytes (record { places = places })
+pub of-bytes : (bytes : List ℕ) (places : List Bool) (n : ℕ) (r : Map) → FilledTo false (λ t. eqb (getD bytes t 0) 1) n places → 129 ≤ n
+    → OfPlaces places r → OfBytes bytes r
 unfolding present
-of-bytes bytes places n h l = record { whole = h .whole; at = λ t b. h .at t (omega arith) }
+of-bytes bytes places n r h l made = record { at = λ t b. ap (λ (p : List Bool). getD p t false) (made .same) ∙ h .at t (omega arith); truth = made .truth }
 
 pub as-bytes : (map : Map) (bytes : List ℕ) (n : ℕ) → FilledTo 0 (λ t. boolByte (present (map .places) t)) n bytes → 129 ≤ n → AsBytes map bytes
 as-bytes map bytes n h l = record { whole = h .whole; at = λ t b. h .at t (omega arith) ∙ as-number (present (map .places) t) }

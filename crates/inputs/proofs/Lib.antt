@@ -6,5 +6,6 @@ pub mod Tests
 pub mod Absent
 pub mod Filling
 pub mod Present
+pub mod Truth
 pub mod Presence
 pub mod Determined

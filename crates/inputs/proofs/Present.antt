@@ -1,24 +1,23 @@
--- Places that are present, counted: more are present in all than below n exactly when one from n on is.
+-- Places that are present, counted.
 --   byte-most          a place is counted at most once
 --   present-more       one place more
---   strays-counted     so much of the counts
+--   same-count         where no place from n on is present, as many are present below n as below m
+--   both-counted       each place is present or absent
+--   one-more           a test that passes one number more counts one more
 use mathlib.Core.Path.{_≡_, refl, sym, ap, _∙_}
-use mathlib.Core.Logic.{_↔_, by-cases}
-use mathlib.Core.Bool.{Bool, true, false, not, true≢false}
+use mathlib.Core.Logic.{_≢_, by-cases, _⊎_, inl, inr}
+use mathlib.Core.Bool.{Bool, true, false, not}
 use mathlib.Core.List.{List}
-use Prim.Native.Nat.{ℕ, suc, _+_, _≤_, _<_}
+use Prim.Native.Nat.{ℕ, zero, suc, _+_, _≤_, _<_}
 use native.Mathlib.Numerals.{add-one}
-use native.Mathlib.Decide.{decLt, le-ind}
+use native.Mathlib.Nat.{eq-or-lt-of-le, le-of-suc-le-suc, not-suc-le-zero}
+use native.Mathlib.Decide.{le-ind}
 use native.Mathlib.Omega.{arith}
-use lib.Dec.{eqb}
-use lib.ListN.{length}
 use mir.Val.{boolByte}
-use borrow.Author.Tests.{eq-eqb, ne-eqb, not-true}
 use Rattle.parity.specs.Sum.{count}
 use Rattle.parity.specs.Presence.{present}
-use Rattle.parity.proofs.Count.{count-under}
+use Rattle.parity.proofs.Count.{count-cong}
 use Rattle.inputs.specs.Absent.{PresentFrom}
-use Rattle.inputs.proofs.Absent.{past-all}
 
 pub byte-most : (b : Bool) → boolByte b ≤ 1
 byte-most true = omega arith
@@ -32,38 +31,36 @@ present-more t map = go (present map t) refl ∙ ap (λ (n : ℕ). count n (pres
     go true e = rw e (omega arith)
     go false e = rw e (omega arith)
 
-module _ (n : ℕ) (map : List Bool) where
-  -- a count that is not the same comes from a place
-  differs : (m : ℕ) → n ≤ m → (count m (present map) ≡ count n (present map) → ⊥) → PresentFrom n map
-  unfolding count
-  differs m h = le-ind (λ m. (count m (present map) ≡ count n (present map) → ⊥) → PresentFrom n map) (λ ne. absurd (ne refl)) step m h
-    where
-      step : (m : ℕ) → n ≤ m → ((count m (present map) ≡ count n (present map) → ⊥) → PresentFrom n map)
-          → (count (suc m) (present map) ≡ count n (present map) → ⊥) → PresentFrom n map
-      step m l ih ne = go (present map m) refl
-        where
-          go : (b : Bool) → present map m ≡ b → PresentFrom n map
-          go true e = record { at = m; above = l; there = e }
-          go false e = ih (λ q. ne (rw e q))
+pub same-count : (n : ℕ) (map : List Bool) → (PresentFrom n map → ⊥) → (m : ℕ) → n ≤ m → count m (present map) ≡ count n (present map)
+unfolding count
+same-count n map none m l = le-ind (λ x. count x (present map) ≡ count n (present map)) refl (λ x h ih. go x h (present map x) refl ih) m l
+  where
+    go : (x : ℕ) → n ≤ x → (b : Bool) → present map x ≡ b → count x (present map) ≡ count n (present map) → count (suc x) (present map) ≡ count n (present map)
+    go x h true e ih = absurd (none (record { at = x; above = h; there = e }))
+    go x h false e ih = rw e ih
 
-  -- a place that is present is counted
-  most : (m x : ℕ) → n ≤ x → x < m → present map x ≡ true → count n (present map) < count m (present map)
-  unfolding count
-  most m x l h e = by-cases (decLt n x)
-      (λ below. let p = count-under m (present map) x e h in let q = low in omega arith)
-      (λ same. let q : x ≡ n = omega arith in count-under m (present map) n (ap (present map) (sym q) ∙ e) (omega arith))
-    where
-      low : count n (present map) ≤ count x (present map)
-      low = le-ind (λ y. count n (present map) ≤ count y (present map)) (omega arith) (λ y k ih. go y (present map y) refl ih) x l
-        where
-          go : (y : ℕ) (b : Bool) → present map y ≡ b → count n (present map) ≤ count y (present map) → count n (present map) ≤ count (suc y) (present map)
-          go y true p ih = rw p (omega arith)
-          go y false p ih = rw p ih
+pub both-counted : (n : ℕ) (f : ℕ → Bool) → count n (λ t. not (f t)) + count n f ≡ n
+unfolding count
+both-counted zero f = refl
+both-counted (suc n) f = go (f n) refl (both-counted n f)
+  where
+    go : (b : Bool) → f n ≡ b → count n (λ t. not (f t)) + count n f ≡ n → count (suc n) (λ t. not (f t)) + count (suc n) f ≡ suc n
+    go true e ih = rw e (omega arith)
+    go false e ih = rw e (omega arith)
 
-  pub strays-counted : length map ≡ 129 → n ≤ 129 → (x y : ℕ) → x ≡ count 129 (present map) → y ≡ count n (present map) → (not (eqb x y) ≡ true) ↔ PresentFrom n map
-  strays-counted whole low x y p q = (
-    λ e. differs 129 low (λ z. true≢false (sym (eq-eqb x y (p ∙ z ∙ sym q)) ∙ not-true _ e)),
-    λ o. by-cases (decLt (o .at) 129)
-        (λ inside. let h = most 129 (o .at) (o .above) inside (o .there) in ap not (ne-eqb x y (λ z. absurd (omega arith))))
-        (λ past. absurd (true≢false (sym (o .there) ∙ past-all map (o .at) (omega arith)))),
-  )
+-- g passes p and every number that f passes
+pub one-more : (n p : ℕ) (f g : ℕ → Bool) → p < n → f p ≡ false → g p ≡ true → ((t : ℕ) → t ≢ p → g t ≡ f t) → count n g ≡ suc (count n f)
+unfolding count
+one-more zero p f g l e d same = absurd (not-suc-le-zero l)
+one-more (suc n) p f g l e d same = go (eq-or-lt-of-le (le-of-suc-le-suc l)) (λ h. one-more n p f g h e d same)
+  where
+    go : (p ≡ n) ⊎ (p < n) → (p < n → count n g ≡ suc (count n f)) → count (suc n) g ≡ suc (count (suc n) f)
+    go (inl q) ih =
+        let f0 : f n ≡ false = ap f (sym q) ∙ e in
+        let g1 : g n ≡ true = ap g (sym q) ∙ d in
+        rw (f0, g1, count-cong n {f = g} {g = f} (λ t h. same t (λ z. omega arith)))
+    go (inr h) ih = more (f n) refl (ih h)
+      where
+        more : (b : Bool) → f n ≡ b → count n g ≡ suc (count n f) → count (suc n) g ≡ suc (count (suc n) f)
+        more true q i = rw (same n (λ z. omega arith), q) (omega arith)
+        more false q i = rw (same n (λ z. omega arith), q) i

@@ -5,15 +5,16 @@
 --   gives-one                   a list of rules gives one verdict
 --   gives-refused, gives-after  of two lists in a row: the first refuses; it passes, and the second gives the verdict
 --   gives-instead               of two lists in a row another stands for the second
+--   never-number                a number that no rule brings whose condition can hold is not given
 --   gives-passed, gives-rest    two lists in a row pass: each does; the first passes: the second gives the verdict of both
-use mathlib.Core.Path.{_≡_, refl, sym, _∙_}
+use mathlib.Core.Path.{_≡_, refl, sym, ap, _∙_}
 use mathlib.Core.Logic.{_≢_, _⊎_, inl, inr, by-cases}
 use mathlib.Core.List.{List, [], _∷_, _++_}
-use Prim.Native.Nat.{ℕ}
+use Prim.Native.Nat.{ℕ, _<_}
 use native.Mathlib.Decide.{ℕ-discrete}
 use native.Mathlib.Omega.{arith}
 use Rattle.inputs.specs.declared.shapes.Refusal.{Refusal}
-use Rattle.inputs.specs.Refusals.{Verdict, pass, refuse, Rule, Gives}
+use Rattle.inputs.specs.Refusals.{numberOf, Verdict, pass, refuse, answerNumber, Rule, Gives}
 
 pub passes-not : (f : Refusal) → pass ≡ refuse f → ⊥
 passes-not f e = let z : _≡_ {A = ℕ} 0 1 = cc in omega arith
@@ -69,3 +70,13 @@ pub gives-instead : (rules more other : List Rule) (v : Verdict) → (Gives more
 gives-instead [] more other v h g = h g
 gives-instead (r ∷ rules) more other v h (inl p) = inl p
 gives-instead (r ∷ rules) more other v h (inr p) = inr (p .0, gives-instead rules more other v h (p .1))
+
+-- where each rule with that number has a condition that does not hold
+abbrev pub Never : ℕ → List Rule → Type 0
+Never n [] = Unit {0}
+Never n (r ∷ rules) = (numberOf (r .refusal) ≡ n → r .condition → ⊥) × Never n rules
+
+pub never-number : (n : ℕ) (rules : List Rule) (v : Verdict) → 0 < n → Never n rules → Gives rules v → answerNumber v ≢ n
+never-number n [] v some never g e = let z : 0 ≡ n = sym (ap answerNumber g) ∙ e in omega arith
+never-number n (r ∷ rules) v some never (inl p) e = never .0 (sym (ap answerNumber (p .1)) ∙ e) (p .0)
+never-number n (r ∷ rules) v some never (inr p) e = never-number n rules v some (never .1) (p .1) e

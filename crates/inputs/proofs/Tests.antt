@@ -2,7 +2,7 @@
 --   passed-on, told-refused  a refusal is that of every list of rules that begins with the tests
 --   told-passed              a good shape passes them
 --   Numbers, stripe-good     what is known where the numbers and the stripe's length are right
---   Lent, lent-good          and where the bench's length and the map are right too
+--   Lent, lent-good          and where the bench's length and the map are right too: it is true, and has no strays
 --   lent-given, lent-passed  their rules pass exactly then
 --   gaps-passed              and with at most two columns absent the rules up to 4 pass
 --   FewAbsent, gaps-good     and where at most two columns are absent
@@ -22,12 +22,14 @@ use Rattle.inputs.specs.declared.shapes.Judged.the-variants.{Good, Refus
 use Rattle.inputs.specs.declared.shapes.Refusal.{Refusal}
 use Rattle.inputs.specs.Refusals.{pass, refuse, Rule, Gives}
 use Rattle.inputs.specs.Absent.{Stray, Counts}
-use Rattle.inputs.specs.Rules.{benchLengthDiffers, strayColumn, tooManyAbsent, stripeRules, lentRules, gapRules}
+use Rattle.inputs.specs.Truth.{TrueMap}
+use Rattle.inputs.specs.Rules.{benchLengthDiffers, lyingMap, strayColumn, tooManyAbsent, stripeRules, lentRules, gapRules}
 use Rattle.inputs.specs.Shapes.{verdictOf, goodColumn, refusalOf}
 use Rattle.inputs.specs.Tests as tests
 use Rattle.inputs.specs.Tests.{JudgesStripe, JudgesLent, JudgesGaps}
 use Rattle.inputs.proofs.Rules.{gives-next, gives-refused, gives-after, gives-passed, passed-first, equal-of}
 use Rattle.inputs.proofs.Stripe.{stripe-passed, stripe-given}
+use Rattle.inputs.proofs.Truth.{not-lying}
 
 module _ (rules more : List Rule) where
   pub passed-on : (j : Judged) {f : Refusal} → Gives rules (verdictOf j) → j ≡ Refused f → Gives (rules ++ more) (verdictOf j)
@@ -62,6 +64,7 @@ module _ (m k b n : ℕ) where
       pub tests : Gives (lentRules m k b map n w) pass
       pub numbers : Numbers m k b n c
       pub held : w ≡ benchLength m b
+      pub truth : TrueMap map
       pub clear : Stray k (map .places) → ⊥
 
     -- what their rules ask
@@ -69,18 +72,20 @@ module _ (m k b n : ℕ) where
       pub shape : Shape m k b
       pub stripe : n ≡ stripeLength m k b
       pub held : w ≡ benchLength m b
+      pub truth : TrueMap map
       pub clear : Stray k (map .places) → ⊥
 
     pub lent-given : Gives (lentRules m k b map n w) pass → Fits
     lent-given g =
-        let (first, second) = gives-passed (stripeRules m k b n) (benchLengthDiffers m b w ∷ strayColumn k map ∷ []) g in
+        let (first, second) = gives-passed (stripeRules m k b n) (benchLengthDiffers m b w ∷ lyingMap map ∷ strayColumn k map ∷ []) g in
         let (shape, stripe) = stripe-given m k b n first in
         let (held, rest) = passed-first second in
-        record { shape = shape; stripe = stripe; held = equal-of _ _ held; clear = passed-first rest .0 }
+        let (honest, last) = passed-first rest in
+        record { shape = shape; stripe = stripe; held = equal-of _ _ held; truth = not-lying map honest; clear = passed-first last .0 }
 
     pub lent-passed : Fits → Gives (lentRules m k b map n w) pass
     lent-passed f =
-        gives-after (stripeRules m k b n) (benchLengthDiffers m b w ∷ strayColumn k map ∷ []) pass (stripe-passed m k b n (f .shape) (f .stripe)) (gives-next (λ d. d (f .held)) (gives-next (f .clear) refl))
+        gives-after (stripeRules m k b n) (benchLengthDiffers m b w ∷ lyingMap map ∷ strayColumn k map ∷ []) pass (stripe-passed m k b n (f .shape) (f .stripe)) (gives-next (λ d. d (f .held)) (gives-next (λ lies. lies (f .truth)) (gives-next (f .clear) refl)))
 
     pub gaps-passed : Fits → absences k (map .places) ≤ 2 → Gives (gapRules m k b map n w) pass
     gaps-passed f few = gives-after (lentRules m k b map n w) (tooManyAbsent k map ∷ []) pass (lent-passed f) (gives-next (λ many. omega arith) refl)
@@ -93,6 +98,7 @@ module _ (m k b n : ℕ) where
           tests = all;
           numbers = record { shape = fits .shape; column = good-column m b j (h .column) e; stripe = fits .stripe };
           held = fits .held;
+          truth = fits .truth;
           clear = fits .clear;
         }
 

@@ -9,7 +9,7 @@ use mathlib.Core.Logic.{_⊎_}
 use mathlib.Core.List.{List, [], _∷_}
 use Prim.Native.Nat.{ℕ}
 use Rattle.inputs.specs.declared.shapes.Refusal.{Refusal}
-use Rattle.inputs.specs.declared.shapes.Refusal.the-variants.{WrongM, StripeLength, BenchLength, Ambiguous, Contradicted, Unmendable, NoSuchColumn, Malformed, StrayColumn, TooLong, WrongK, WrongB}
+use Rattle.inputs.specs.declared.shapes.Refusal.the-variants.{WrongM, StripeLength, BenchLength, Ambiguous, Contradicted, Unmendable, NoSuchColumn, Malformed, StrayColumn, TooLong, WrongK, WrongB, LyingMap}
 
 abbrev pub numberOf : Refusal → ℕ
 numberOf WrongM = 1
@@ -24,6 +24,7 @@ numberOf StrayColumn = 9
 numberOf TooLong = 10
 numberOf WrongK = 12
 numberOf WrongB = 13
+numberOf LyingMap = 17
 
 pub data Verdict : Type 0 where
   pass : Verdict

@@ -10,16 +10,17 @@
 --   strayColumn k map             9: a place at or above k + 2 is present
 --   wrongK m k                    12: k is 0 or above m
 --   wrongB b                      13: b is 0 or above 4,096
+--   lyingMap map                  17: the map's two numbers are not what its places say
 -- 8 stands with the shelf image's format, and 10 with the program. The orders:
 --   shapeRules     1, 12, 13: asked first by every call that is given a shape, and by the readers of an image of its header. They let exactly
 --                  the shapes pass (`ShapesPass`)
 --   stripeRules    1, 12, 13, 2: encode and check
 --   mendRules      1, 12, 13, 2, 6
---   lentRules      1, 12, 13, 2, 3, 9: what a map, a stripe and a bench are asked first
---   gapRules       1, 12, 13, 2, 3, 9, 4
---   restoreRules   1, 12, 13, 2, 3, 9, 4, 5
---   showRules      1, 12, 13, 2, 3, 9, 7, 4
---   placeRules     7: marking a place
+--   lentRules      1, 12, 13, 2, 3, 17, 9: what a map, a stripe and a bench are asked first
+--   gapRules       1, 12, 13, 2, 3, 17, 9, 4
+--   restoreRules   1, 12, 13, 2, 3, 17, 9, 4, 5
+--   showRules      1, 12, 13, 2, 3, 17, 9, 7, 4
+--   placeRules     17, 7: marking a place
 use mathlib.Core.Path.{_≡_}
 use mathlib.Core.Logic.{_≢_, _⊎_}
 use mathlib.Core.List.{List, [], _∷_, _++_}
@@ -32,6 +33,7 @@ use Rattle.inputs.specs.declared.maps.Map.{Map}
 use Rattle.inputs.specs.declared.shapes.Refusal.the-variants as refusal
 use Rattle.inputs.specs.Refusals.{Rule}
 use Rattle.inputs.specs.Absent.{Stray}
+use Rattle.inputs.specs.Truth.{TrueMap}
 
 abbrev pub wrongM : ℕ → Rule
 wrongM m = record { condition = OddPrime m → ⊥; refusal = refusal.WrongM }
@@ -66,6 +68,9 @@ wrongK m k = record { condition = (k ≡ 0) ⊎ (m < k); refusal = refusal.Wrong
 abbrev pub wrongB : ℕ → Rule
 wrongB b = record { condition = (b ≡ 0) ⊎ (4096 < b); refusal = refusal.WrongB }
 
+abbrev pub lyingMap : Map → Rule
+lyingMap map = record { condition = TrueMap map → ⊥; refusal = refusal.LyingMap }
+
 -- ---- the orders
 
 abbrev pub shapeRules : ℕ → ℕ → ℕ → List Rule
@@ -78,7 +83,7 @@ abbrev pub mendRules : ℕ → ℕ → ℕ → List ℕ → List Rule
 mendRules m k b s = stripeRules m k b (length s) ++ (unmendable m k b s ∷ [])
 
 abbrev pub lentRules : ℕ → ℕ → ℕ → Map → ℕ → ℕ → List Rule
-lentRules m k b map n w = stripeRules m k b n ++ (benchLengthDiffers m b w ∷ strayColumn k map ∷ [])
+lentRules m k b map n w = stripeRules m k b n ++ (benchLengthDiffers m b w ∷ lyingMap map ∷ strayColumn k map ∷ [])
 
 abbrev pub gapRules : ℕ → ℕ → ℕ → Map → ℕ → ℕ → List Rule
 gapRules m k b map n w = lentRules m k b map n w ++ (tooManyAbsent k map ∷ [])
@@ -89,5 +94,5 @@ restoreRules m k b map s w = gapRules m k b map (length s) w ++ (contradicted m 
 abbrev pub showRules : ℕ → ℕ → ℕ → Map → ℕ → ℕ → ℕ → List Rule
 showRules m k b map n w column = lentRules m k b map n w ++ (noSuchColumn k column ∷ tooManyAbsent k map ∷ [])
 
-abbrev pub placeRules : ℕ → List Rule
-placeRules place = noSuchPlace place ∷ []
+abbrev pub placeRules : Map → ℕ → List Rule
+placeRules map place = lyingMap map ∷ noSuchPlace place ∷ []

@@ -39,7 +39,7 @@ pub fn judge_stripe(m: usize, k: usize, b: usize, length: usize) -> Judged
     judged
 }
 
-// Judges three numbers, the lengths of a stripe and of a bench, and that no place past the columns is present.
+// Judges three numbers, the lengths of a stripe and of a bench, that the map is true, and that no place past the columns is present.
 pub fn judge_lent(m: usize, k: usize, b: usize, map: Map, length: usize, held: usize) -> Judged
     ensures { λ r. ⌜ JudgesLent m k b map length held r ⌝ }
 {
@@ -50,7 +50,10 @@ pub fn judge_lent(m: usize, k: usize, b: usize, map: Map, length: usize, held: u
     if held != 2 * column {
         return Judged::Refused(Refusal::BenchLength);
     }
-    if map.strays(k + 2) {
+    if !map.is_true() {
+        return Judged::Refused(Refusal::LyingMap);
+    }
+    if map.reaches(k + 2) {
         return Judged::Refused(Refusal::StrayColumn);
     }
     judged
@@ -64,9 +67,10 @@ pub fn judge_gaps(m: usize, k: usize, b: usize, map: Map, length: usize, held: u
     let Judged::Good { column } = judged else {
         return Given::Refused(judged.refusal());
     };
-    let gaps = map.gaps(k + 2);
-    if 2 < gaps.count {
+    let columns = k + 2;
+    if 2 < columns - map.present() {
         return Given::Refused(Refusal::Ambiguous);
     }
+    let gaps = map.gaps(columns);
     Given::Good { column, gaps }
 }

@@ -1,16 +1,24 @@
-// The presence map: 129 places, each present or absent. Only this file looks into its array.
+// The presence map: 129 places, each present or absent, and two numbers: how many are present, and the highest present one. Only this file
+// looks into its array.
 use crate::shapes::Refusal;
 ghost use mathlib.Core.Path.{_≡_};
-ghost use mathlib.Core.Bool.{Bool, true, false};
+ghost use mathlib.Core.Bool.{Bool, true, false, cond};
 ghost use mathlib.Core.List.{List};
+ghost use mathlib.Core.Logic.{_↔_};
 ghost use Prim.Native.Nat.{_+_, _≤_, _<_};
+ghost use lib.Dec.{ltb};
+ghost use lib.ListN.{length, set};
 ghost use Rattle.parity.specs.Sum.{count};
 ghost use Rattle.parity.specs.Presence.{present};
 ghost use Rattle.inputs.specs.Absent.{Counts};
-ghost use Rattle.inputs.specs.Maps.{New, OfBytes, AsBytes, Marks, JudgesPlace, FindsGaps, FindsStrays};
+ghost use Rattle.inputs.specs.Truth.{Highest, Topped, TrueMap, HighestFrom};
+ghost use Rattle.inputs.specs.Maps.{New, OfPlaces, OfBytes, AsBytes, TellsTruth, MarkedAs, Marks, JudgesPlace, FindsGaps, FindsStrays};
 
+// 129 stands for no highest place. A map made of parts may lie: its two numbers are not what its places say. Every call refuses such a map.
 pub struct Map {
     places: [bool; 129],
+    present: usize,
+    highest: usize,
 }
 
 // How many places are absent, and the two lowest of them; 129 stands for none.
@@ -75,16 +83,58 @@ fn find_gaps(places: [bool; 129], n: usize) -> Gaps
     gaps
 }
 
-// How many places below n are present.
-fn count_present(places: [bool; 129], n: usize) -> u8
-    requires { ⌜ n ≤ 129 ⌝ }
-    ensures { λ r. ⌜ r ≡ count n (present places) ⌝ }
+// How many places are present.
+fn count_present(places: [bool; 129]) -> usize
+    ensures { λ r. ⌜ r ≡ count 129 (present places) ⌝ }
 {
     let mut c: u8 = 0;
-    for t in 0..n {
+    for t in 0..129 {
         c += places[t] as u8;
     }
-    c
+    c as usize
+}
+
+// The larger of two numbers.
+fn larger(x: u8, y: u8) -> u8
+    ensures { λ r. ⌜ r ≡ cond (ltb x y) y x ⌝ }
+{
+    if x < y { y } else { x }
+}
+
+// One more than the highest present place, and 0 where none is present. Each present place gives one more than its number, and the largest is kept, which is
+// faster than to look from the last place down.
+fn find_top(places: [bool; 129]) -> u8
+    ensures { λ r. ⌜ Topped 129 places r ⌝ }
+{
+    let mut top: u8 = 0;
+    for t in 0..129 {
+        top = larger(top, places[t] as u8 * (t as u8 + 1));
+    }
+    top
+}
+
+// The highest present place.
+fn find_highest(places: [bool; 129]) -> usize
+    ensures { λ r. ⌜ Highest places r ⌝ }
+{
+    let top = find_top(places);
+    if top == 0 {
+        return 129;
+    }
+    top as usize - 1
+}
+
+// The highest present place, where it was `highest`, and a place is marked present.
+fn higher(highest: usize, place: usize) -> usize
+    ensures { λ r. ⌜ ((places : List Bool) → Highest places highest → place < length places → place < 129 → Highest (set places place true) r) ⌝ }
+{
+    if highest == 129 {
+        return place;
+    }
+    if highest < place {
+        return place;
+    }
+    highest
 }
 
 impl Map {
@@ -94,10 +144,36 @@ impl Map {
     {
         Self {
             places: [false; 129],
+            present: 0,
+            highest: 129,
         }
     }
 
-    // The map that 129 bytes give: 1 is present, any other byte is absent.
+    // The true map of these places.
+    pub fn of_places(places: [bool; 129]) -> Self
+        ensures { λ r. ⌜ OfPlaces places r ⌝ }
+    {
+        let present = count_present(places);
+        let highest = find_highest(places);
+        Self {
+            places,
+            present,
+            highest,
+        }
+    }
+
+    // A map of these places and of any two numbers: it lies where the places do not say them.
+    pub fn of_parts(places: [bool; 129], present: usize, highest: usize) -> Self
+        ensures { λ r. ⌜ r ≡ record { places = places; present = present; highest = highest } ⌝ }
+    {
+        Self {
+            places,
+            present,
+            highest,
+        }
+    }
+
+    // The true map that 129 bytes give: 1 is present, any other byte is absent.
     pub fn of_bytes(bytes: &[u8; 129]) -> Self
         ensures { λ r. ⌜ OfBytes (now (bytes .entry)) r ⌝ }
     {
@@ -105,10 +181,10 @@ impl Map {
         for t in 0..129 {
             places[t] = bytes[t] == 1;
         }
-        Self { places }
+        Self::of_places(places)
     }
 
-    // The map in 129 bytes: 1 for present, 0 for absent.
+    // The places in 129 bytes: 1 for present, 0 for absent.
     pub fn bytes(self) -> [u8; 129]
         ensures { λ r. ⌜ AsBytes self r ⌝ }
     {
@@ -120,32 +196,101 @@ impl Map {
         bytes
     }
 
-    // The map with a place marked present; a place of 129 or more leaves it as it is.
-    pub fn mark_present(mut self, place: usize) -> Self
-        ensures { λ r. ⌜ Marks true self place r ⌝ }
+    // How many places are present, as the map has it.
+    pub fn present(self) -> usize
+        ensures { λ r. ⌜ r ≡ self .present ⌝ }
     {
-        if 129 <= place {
+        self.present
+    }
+
+    // The highest present place, as the map has it; 129 stands for none.
+    pub fn highest(self) -> usize
+        ensures { λ r. ⌜ r ≡ self .highest ⌝ }
+    {
+        self.highest
+    }
+
+    // Whether the two numbers are what the places say.
+    pub fn is_true(self) -> bool
+        ensures { λ r. ⌜ TellsTruth self r ⌝ }
+    {
+        let places = self.places;
+        let present = self.present;
+        let highest = self.highest;
+        if count_present(places) != present {
+            return false;
+        }
+        find_highest(places) == highest
+    }
+
+    // Whether the highest place, as the map has it, is n or above.
+    pub(crate) fn reaches(self, n: usize) -> bool
+        ensures { λ r. ⌜ (r ≡ true) ↔ HighestFrom n self ⌝ }
+    {
+        let highest = self.highest;
+        if highest == 129 {
+            return false;
+        }
+        n <= highest
+    }
+
+    // A true map with a place marked present.
+    fn with(mut self, place: usize) -> Self
+        requires { ⌜ TrueMap self × (place < 129) ⌝ }
+        ensures { λ r. ⌜ MarkedAs true self place r ⌝ }
+    {
+        if self.places[place] {
             return self;
         }
         self.places[place] = true;
+        self.present += 1;
+        self.highest = higher(self.highest, place);
         self
     }
 
-    // The map with a place marked absent; a place of 129 or more leaves it as it is.
-    pub fn mark_absent(mut self, place: usize) -> Self
-        ensures { λ r. ⌜ Marks false self place r ⌝ }
+    // A true map with a place marked absent. Where it was the highest, the next is found.
+    fn without(mut self, place: usize) -> Self
+        requires { ⌜ TrueMap self × (place < 129) ⌝ }
+        ensures { λ r. ⌜ MarkedAs false self place r ⌝ }
     {
-        if 129 <= place {
+        if !self.places[place] {
             return self;
         }
         self.places[place] = false;
+        self.present -= 1;
+        if self.highest == place {
+            self.highest = find_highest(self.places);
+        }
         self
+    }
+
+    // The map with a place marked present; one that lies, or a place of 129 or more, leaves it as it is.
+    pub fn mark_present(self, place: usize) -> Self
+        ensures { λ r. ⌜ Marks true self place r ⌝ }
+    {
+        match self.judge_place(place) {
+            Marked::Done => self.with(place),
+            Marked::Refused(_) => self,
+        }
+    }
+
+    // The map with a place marked absent; one that lies, or a place of 129 or more, leaves it as it is.
+    pub fn mark_absent(self, place: usize) -> Self
+        ensures { λ r. ⌜ Marks false self place r ⌝ }
+    {
+        match self.judge_place(place) {
+            Marked::Done => self.without(place),
+            Marked::Refused(_) => self,
+        }
     }
 
     // What marking that place says.
     pub fn judge_place(self, place: usize) -> Marked
-        ensures { λ r. ⌜ JudgesPlace place r ⌝ }
+        ensures { λ r. ⌜ JudgesPlace self place r ⌝ }
     {
+        if !self.is_true() {
+            return Marked::Refused(Refusal::LyingMap);
+        }
         if 129 <= place {
             return Marked::Refused(Refusal::NoSuchColumn);
         }
@@ -173,15 +318,11 @@ impl Map {
         find_gaps(places, n)
     }
 
-    // Whether a place from n on is present: then more are present in all than below n. Counted from the first place on, which is faster
-    // than to look from place n on.
+    // Whether a place from n on is present.
     pub fn strays(self, n: usize) -> bool
         ensures { λ r. ⌜ FindsStrays self n r ⌝ }
     {
         let places = self.places;
-        if 129 < n {
-            return false;
-        }
-        count_present(places, 129) != count_present(places, n)
+        Self::of_places(places).reaches(n)
     }
 }

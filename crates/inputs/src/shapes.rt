@@ -17,10 +17,11 @@ pub enum Refusal {
     TooLong,
     WrongK,
     WrongB,
+    LyingMap,
 }
 
 impl Refusal {
-    // The refusal's number: 1 to 10, 12 or 13, and no other.
+    // The refusal's number: 1 to 10, 12, 13 or 17, and no other.
     pub fn number(self) -> u8
         ensures { λ r. ⌜ r ≡ numberOf self ⌝ }
     {
@@ -37,6 +38,7 @@ impl Refusal {
             Refusal::TooLong => 10,
             Refusal::WrongK => 12,
             Refusal::WrongB => 13,
+            Refusal::LyingMap => 17,
         }
     }
 }

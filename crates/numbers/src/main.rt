@@ -1,4 +1,4 @@
-// Runs every number that the document gives to hold against the build, and more of wrong shapes, and prints what the library answers, one line each. What is printed is
+// Runs every number that the document gives to hold against the build, and more of wrong shapes and of gaps, and prints what the library answers, one line each. What is printed is
 // compared with the stored text.
 mod others;
 
@@ -15,9 +15,10 @@ fn proved_cases(out: &mut [u8], at: usize) -> usize {
 fn other_cases(out: &mut [u8], at: usize) -> usize {
     let a = others::lengths(out, at);
     let b = others::places(out, a);
-    let c = others::shapes_and_benches(out, b);
-    let d = others::shapes_and_lengths(out, c);
-    others::wrong_cells(out, d)
+    let c = others::gaps(out, b);
+    let d = others::shapes_and_benches(out, c);
+    let e = others::shapes_and_lengths(out, d);
+    others::wrong_cells(out, e)
 }
 
 // Images.

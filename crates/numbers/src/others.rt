@@ -8,6 +8,9 @@ use say::read_line;
 use say::report_line;
 use say::restore_line;
 use say::show_line;
+use words::say_head;
+use words::say_number;
+use words::say_word;
 
 // C1 cut, and with one byte more.
 pub(crate) fn lengths(out: &mut [u8], at: usize) -> usize {
@@ -27,6 +30,50 @@ pub(crate) fn places(out: &mut [u8], at: usize) -> usize {
     let stray = map.mark_present(5);
     let first = restore_line(out, at, b"place=5", [3, 3, 1], stray, &c1, &mut bench);
     show_line(out, first, b"place=5", [3, 3, 1], stray, &c1, &bench, 0)
+}
+
+// What the map of these places has, and which of the columns with k data columns are absent.
+fn gaps_line(out: &mut [u8], at: usize, name: &[u8], k: usize, places: [u8; 129]) -> usize {
+    let mut present = 0;
+    let mut highest = 0;
+    let mut absent = 0;
+    let mut first = 0;
+    let mut second = 0;
+    let number = oarwillow::oarwillow_gaps(
+        k,
+        &places,
+        &mut present,
+        &mut highest,
+        &mut absent,
+        &mut first,
+        &mut second,
+    );
+    let a = say_head(out, at, name, b" gaps");
+    let b = say_number(out, a, number as usize);
+    let c = say_number(out, b, present);
+    let d = say_number(out, c, highest);
+    let e = say_number(out, d, absent);
+    let f = say_number(out, e, first);
+    let g = say_number(out, f, second);
+    say_word(out, g, b"\n")
+}
+
+// The gaps of C5's map, of none present, of all, of the last place alone, and of all but the last.
+pub(crate) fn gaps(out: &mut [u8], at: usize) -> usize {
+    let mut c5 = [0u8; 129];
+    c5[1] = 1;
+    c5[3] = 1;
+    c5[4] = 1;
+    let mut last = [0u8; 129];
+    last[128] = 1;
+    let mut but_last = [1u8; 129];
+    but_last[128] = 0;
+    let a = gaps_line(out, at, b"gaps,C5", 3, c5);
+    let b = gaps_line(out, a, b"gaps,none", 3, [0u8; 129]);
+    let c = gaps_line(out, b, b"gaps,all,k=127", 127, [1u8; 129]);
+    let d = gaps_line(out, c, b"gaps,128,k=126", 126, last);
+    let e = gaps_line(out, d, b"gaps,128,k=127", 127, last);
+    gaps_line(out, e, b"gaps,k=max", 18446744073709551615, but_last)
 }
 
 // One wrong number of the shape, beside a bench of another length.

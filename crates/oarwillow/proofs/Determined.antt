@@ -1,12 +1,21 @@
 -- Each call determines what it gives: the proofs of the statements in specs/Determined. The promise of the call below leaves one answer,
 -- and the results are that answer's.
-use Rattle.inputs.specs.Determined.{OfBytesOne, AsBytesOne}
-use Rattle.inputs.proofs.Determined.{of-bytes-one, as-bytes-one}
+use mathlib.Core.Path.{_≡_, ap, sym, _∙_}
+use mathlib.Core.List.{List}
+use mathlib.Core.Logic.{_≢_}
+use Prim.Native.Nat.{ℕ, _+_}
+use native.Mathlib.Omega.{arith}
+use lib.ListN.{length}
+use Rattle.inputs.specs.Rules.{restoreRules, showRules}
+use Rattle.inputs.proofs.Rules.{never-number}
+use Rattle.inputs.specs.Determined.{OfBytesOne, AsBytesOne, FindsGapsOne}
+use Rattle.inputs.proofs.Determined.{of-bytes-one, as-bytes-one, finds-gaps-one}
 use Rattle.evenodd.specs.Determined.{PlacesOne, RestoresOne, MendsOne, EncodesOne, ChecksOne}
 use Rattle.evenodd.proofs.Determined.{places-one, restores-one, mends-one, encodes-one, checks-one}
 use Rattle.image.specs.Determined.{ReadsOne}
 use Rattle.image.proofs.Determined.{reads-one}
-use Rattle.oarwillow.specs.Determined.{EncodeGivesOne, CheckGivesOne, RestoreGivesOne, MendGivesOne, ShowGivesOne, ReadGivesOne}
+use Rattle.oarwillow.specs.Calls.{RestoreGives, ShowGives}
+use Rattle.oarwillow.specs.Determined.{EncodeGivesOne, CheckGivesOne, RestoreGivesOne, MendGivesOne, ShowGivesOne, ReadGivesOne, GapsGivesOne, NeverLying}
 
 pub encode-gives-one : EncodeGivesOne
 unfolding EncodeGivesOne EncodesOne
@@ -46,3 +55,28 @@ read-gives-one image s after places x y z r after′ places′ x′ y′ z′ r�
     let (e, bytes) = reads-one image s after after′ (p .answer) (q .answer) (p .meets) (q .meets) in
     let marks = as-bytes-one (p .answer .map) places places′ (p .marks) (rw e (q .marks)) in
     (bytes, marks, cc, cc, cc, cc)
+
+pub gaps-gives-one : GapsGivesOne
+unfolding GapsGivesOne OfBytesOne FindsGapsOne
+gaps-gives-one k places n h x y z r n′ h′ x′ y′ z′ r′ p q =
+    let same = of-bytes-one places (p .map) (q .map) (p .marked) (q .marked) in
+    let e = finds-gaps-one (p .map) (k + 2) (p .answer) (q .answer) (p .meets) (rw same (q .meets)) in
+    (cc, cc, cc, cc, cc, cc)
+
+-- ---- 17 is never given
+
+pub never-lying : NeverLying
+unfolding NeverLying
+never-lying = (restored, shown)
+  where
+    restored : (m k b : ℕ) (places s bench after : List ℕ) (n x y r : ℕ) → RestoreGives m k b places s bench after n x y r → r ≢ 17
+    restored m k b places s bench after n x y r p e =
+        never-number 17 (restoreRules m k b (p .map) s (length bench)) _ (omega arith)
+        (λ q. absurd (omega arith), (λ q. absurd (omega arith), (λ q. absurd (omega arith), (λ q. absurd (omega arith), (λ q. absurd (omega arith), (λ _ lies. lies (p .marked .truth), (λ q. absurd (omega arith), (λ q. absurd (omega arith), (λ q. absurd (omega arith), tt)))))))))
+        (p .meets .told) (sym (p .number) ∙ e)
+
+    shown : (m k b : ℕ) (places s bench : List ℕ) (column x y n r : ℕ) → ShowGives m k b places s bench column x y n r → r ≢ 17
+    shown m k b places s bench column x y n r p e =
+        never-number 17 (showRules m k b (p .map) (length s) (length bench) column) _ (omega arith)
+        (λ q. absurd (omega arith), (λ q. absurd (omega arith), (λ q. absurd (omega arith), (λ q. absurd (omega arith), (λ q. absurd (omega arith), (λ _ lies. lies (p .marked .truth), (λ q. absurd (omega arith), (λ q. absurd (omega arith), (λ q. absurd (omega arith), tt)))))))))
+        (p .meets .told) (sym (p .number) ∙ e)

@@ -1,17 +1,19 @@
 -- What each call for C gives: there is an answer of the call below it that meets its promise, and the number and the results are that
 -- answer's. The parameters are the arguments, then the results, then the number.
 --   EncodeGives, CheckGives, RestoreGives, MendGives, ShowGives, ReadGives
+--   GapsGives    what the map of these bytes keeps, and its absent places below k + 2; it is never refused
 use mathlib.Core.Path.{_≡_}
 use mathlib.Core.List.{List}
-use Prim.Native.Nat.{ℕ}
+use Prim.Native.Nat.{ℕ, _+_}
 use Rattle.evenodd.specs.declared.checks.Checked.{Checked}
 use Rattle.evenodd.specs.declared.encodes.Encoded.{Encoded}
+use Rattle.inputs.specs.declared.maps.Gaps.{Gaps}
 use Rattle.inputs.specs.declared.maps.Map.{Map}
 use Rattle.evenodd.specs.declared.mends.Mended.{Mended}
 use Rattle.evenodd.specs.declared.restores.Restored.{Restored}
 use Rattle.evenodd.specs.declared.shows.Place.{Place}
 use Rattle.inputs.specs.Refusals.{answerNumber}
-use Rattle.inputs.specs.Maps.{OfBytes, AsBytes}
+use Rattle.inputs.specs.Maps.{OfBytes, AsBytes, FindsGaps}
 use Rattle.evenodd.specs.Encodes.{Encodes}
 use Rattle.evenodd.specs.Encodes as encodes
 use Rattle.evenodd.specs.Checks.{Checks, rowsOf, diagonalsOf}
@@ -72,3 +74,15 @@ pub record ReadGives (image before after places : List ℕ) (x y z r : ℕ) : Ty
   pub k : y ≡ kOf (answer .answer)
   pub b : z ≡ bOf (answer .answer)
   pub number : r ≡ answerNumber (reads.verdictOf (answer .answer))
+
+pub record GapsGives (k : ℕ) (places : List ℕ) (n h x y z r : ℕ) : Type 0 where
+  pub map : Map
+  pub marked : OfBytes places map
+  pub answer : Gaps
+  pub meets : FindsGaps map (k + 2) answer
+  pub present : n ≡ map .present
+  pub highest : h ≡ map .highest
+  pub absent : x ≡ answer .count
+  pub first : y ≡ answer .first
+  pub second : z ≡ answer .second
+  pub number : r ≡ 0

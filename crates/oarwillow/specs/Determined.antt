@@ -1,9 +1,11 @@
 -- Each call determines what it gives: two outcomes that meet its promise are equal. Each statement is a type, which proofs/Determined
 -- inhabits.
+--   NeverLying    17 is never given to C: the map that bytes give is a true one
 use mathlib.Core.Path.{_≡_}
+use mathlib.Core.Logic.{_≢_}
 use mathlib.Core.List.{List}
 use Prim.Native.Nat.{ℕ}
-use Rattle.oarwillow.specs.Calls.{EncodeGives, CheckGives, RestoreGives, MendGives, ShowGives, ReadGives}
+use Rattle.oarwillow.specs.Calls.{EncodeGives, CheckGives, RestoreGives, MendGives, ShowGives, ReadGives, GapsGives}
 
 unfoldable pub EncodeGivesOne : Type 0
 EncodeGivesOne = (m k b : ℕ) (s after after′ : List ℕ) (r r′ : ℕ) → EncodeGives m k b s after r → EncodeGives m k b s after′ r′ → (after ≡ after′) × (r ≡ r′)
@@ -28,3 +30,13 @@ unfoldable pub ReadGivesOne : Type 0
 ReadGivesOne = (image s after places : List ℕ) (x y z r : ℕ) (after′ places′ : List ℕ) (x′ y′ z′ r′ : ℕ)
     → ReadGives image s after places x y z r → ReadGives image s after′ places′ x′ y′ z′ r′
     → (after ≡ after′) × (places ≡ places′) × (x ≡ x′) × (y ≡ y′) × (z ≡ z′) × (r ≡ r′)
+
+unfoldable pub GapsGivesOne : Type 0
+GapsGivesOne = (k : ℕ) (places : List ℕ) (n h x y z r n′ h′ x′ y′ z′ r′ : ℕ)
+    → GapsGives k places n h x y z r → GapsGives k places n′ h′ x′ y′ z′ r′
+    → (n ≡ n′) × (h ≡ h′) × (x ≡ x′) × (y ≡ y′) × (z ≡ z′) × (r ≡ r′)
+
+unfoldable pub NeverLying : Type 0
+NeverLying =
+    ((m k b : ℕ) (places s bench after : List ℕ) (n x y r : ℕ) → RestoreGives m k b places s bench after n x y r → r ≢ 17)
+    × ((m k b : ℕ) (places s bench : List ℕ) (column x y n r : ℕ) → ShowGives m k b places s bench column x y n r → r ≢ 17)

@@ -7,7 +7,9 @@ use evenodd::Mended;
 use evenodd::Place;
 use evenodd::Restored;
 use image::Read;
-ghost use Rattle.oarwillow.specs.Calls.{EncodeGives, CheckGives, RestoreGives, MendGives, ShowGives, ReadGives};
+ghost use mathlib.Core.Path.{_≡_};
+ghost use Prim.Native.Nat.{_+_, _≤_, _<_};
+ghost use Rattle.oarwillow.specs.Calls.{EncodeGives, CheckGives, RestoreGives, MendGives, ShowGives, ReadGives, GapsGives};
 
 // Writes H and D.
 #[no_mangle]
@@ -175,4 +177,34 @@ pub extern "C" fn oarwillow_read(
         }
         Read::Refused(r) => r.number(),
     }
+}
+
+// The columns with k data columns, of the map's 129 places.
+fn columns_of(k: usize) -> usize
+    ensures { λ r. ⌜ (k < 127 → r ≡ k + 2) × (127 ≤ k → r ≡ 129) ⌝ }
+{
+    if k < 127 { k + 2 } else { 129 }
+}
+
+// Says what a map knows: how many places are present and the highest of them, how many of the columns are absent and the two lowest of these.
+#[no_mangle]
+pub extern "C" fn oarwillow_gaps(
+    k: usize,
+    places: &[u8; 129],
+    present: &mut usize,
+    highest: &mut usize,
+    absent: &mut usize,
+    first: &mut usize,
+    second: &mut usize,
+) -> u8
+    ensures { λ r. ⌜ GapsGives k (now (places .entry)) (now (present .exit)) (now (highest .exit)) (now (absent .exit)) (now (first .exit)) (now (second .exit)) r ⌝ }
+{
+    let map = Map::of_bytes(places);
+    let gaps = map.gaps(columns_of(k));
+    *present = map.present();
+    *highest = map.highest();
+    *absent = gaps.count;
+    *first = gaps.first;
+    *second = gaps.second;
+    0
 }

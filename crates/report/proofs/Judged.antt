@@ -1,8 +1,7 @@
 -- Laws of judgements.
---   absent-none, absent-next      how many columns are absent, below 0 and below t + 1
 --   formed-said, formed-good      what is known of an image whose contents say a shape
 --   by-contents                   an image is too long, or its contents are refused, or it is well formed
---   not-stray                     its map has no place above its columns
+--   not-stray, formed-truth, formed-absent    its map has no place above its columns, and is true: so its count tells how many are absent
 --   bench-size                    the bench that was lent comes back with its length
 --   read-passes, read-fills       what reading such an image into a stripe of its length leaves
 --   skip                          a rule whose condition fails is passed over
@@ -28,12 +27,14 @@ use Rattle.evenodd.specs.declared.restores.Restored.the-variants as restored
 use Rattle.inputs.specs.declared.shapes.Refusal.{Refusal}
 use Rattle.inputs.specs.declared.shapes.Refusal.the-variants as refusal
 use Rattle.inputs.specs.Refusals.{Verdict, pass, refuse, Gives}
-use Rattle.inputs.specs.Absent.{Stray, absentBelow}
+use Rattle.inputs.specs.Absent.{Stray}
+use Rattle.inputs.specs.Truth.{TrueMap, absentByCount}
 use Rattle.inputs.specs.Rules.{stripeLengthDiffers, contradicted, gapRules}
 use Rattle.inputs.specs.Maps.{New}
 use Rattle.evenodd.specs.Restores.{Restores}
 use Rattle.inputs.proofs.Rules.{passes-not, refuse-one, gives-first, gives-next, gives-one, gives-after, gives-passed, gives-rest}
 use Rattle.inputs.proofs.Tests.{gaps-passed}
+use Rattle.inputs.proofs.Truth.{absent-counted}
 use Rattle.image.specs.declared.answers.Read.{Read}
 use Rattle.image.specs.declared.answers.Read.the-variants as read
 use Rattle.image.specs.declared.answers.Contents.{Contents}
@@ -46,18 +47,6 @@ use Rattle.report.specs.declared.judging.Outcome.{Outcome}
 use Rattle.report.specs.declared.judging.Outcome.the-variants as outcome
 use Rattle.report.specs.declared.judging.Judgement.{Judgement}
 use Rattle.report.specs.Judgements.{Formed, Complete, Benches, JudgesParts, stripeOf, benchOf, InParts, Leaves, JudgesFormed, JudgesImage}
-
-pub absent-none : (map : List Bool) → 0 ≡ absentBelow 0 map
-unfolding absentBelow count
-absent-none map = refl
-
-pub absent-next : (t : ℕ) (map : List Bool) → absentBelow t map + cond (not (present map t)) 1 0 ≡ absentBelow (t + 1) map
-unfolding absentBelow count
-absent-next t map = rw add-one (go (not (present map t)) (absentBelow t map))
-  where
-    go : (c : Bool) (n : ℕ) → n + cond c 1 0 ≡ cond c (suc n) n
-    go true n = omega arith
-    go false n = omega arith
 
 pub formed-good : {image : List ℕ} {shape : Shape} {map : Map} → Formed image shape map → Good image (shape .m) (shape .k) (shape .b) (map .places)
 formed-good {image} {shape} {map} f = good-answer image map (f .told) (f .says)
@@ -78,6 +67,13 @@ by-contents {image} P contents long bad formed = by-order P 16384 (length image)
 pub not-stray : {image : List ℕ} {m k b : ℕ} {map : List Bool} → Good image m k b map → Stray k map → ⊥
 not-stray g p = true≢false (sym (p .there) ∙ g .formed .clear (p .at) (p .above))
 
+pub formed-truth : {image : List ℕ} {shape : Shape} {map : Map} → Formed image shape map → TrueMap map
+formed-truth f = f .says .2
+
+pub formed-absent : {image : List ℕ} {shape : Shape} {map : Map} → Formed image shape map
+    → (map .present ≤ shape .k + 2) × (absences (shape .k) (map .places) ≡ absentByCount (shape .k) map)
+formed-absent {shape = shape} {map = map} f = absent-counted map (formed-truth f) (shape .k) (not-stray (formed-good f))
+
 pub read-passes : {image : List ℕ} (s : List ℕ) {shape : Shape} {map : Map} → Formed image shape map → length s ≡ stripeOf shape
     → Gives (readRules image (length s)) pass
 read-passes {image} s f n =
@@ -88,10 +84,10 @@ module _ {image s after : List ℕ} {shape : Shape} {map : Map} (f : Formed imag
   fills : (a : Read) (other : Map) → Gives (readRules image (length s)) (verdictOf a) → Fills image a other s after
       → Filled (shape .m) (shape .k) (shape .b) (map .places) image s after
   unfolding ImageOne
-  fills (read.Shape x y z) other told (own, filled) =
+  fills (read.Shape x y z) other told (own, filled, truth) =
       let (passes, _) = gives-passed (contentsRules image) (stripeLengthDiffers (mIn image) (kIn image) (bIn image) (length s) ∷ []) told in
       let g = formed-good f in
-      let h = good-answer image other passes (own, filled .formed) in
+      let h = good-answer image other passes (own, filled .formed, truth) in
       let (first, second, third, places) = image-one image (shape .m) (shape .k) (shape .b) x y z (map .places) (other .places) (g .shape) (h .shape) (g .formed) (h .formed) in
       rw (first, second, third, places) filled
   fills (read.Refused r) other told _ = absurd (passes-not r (gives-one (readRules image (length s)) pass (refuse r) (read-passes s f n) told))
@@ -120,7 +116,7 @@ module _ {image s filled bench after : List ℕ} {shape : Shape} {map : Map} (f 
       record {
         read = h;
         told = go (gives-rest (gapRules (shape .m) (shape .k) (shape .b) map (length filled) (length bench)) (contradicted (shape .m) (shape .k) (shape .b) map filled ∷ []) _
-            (gaps-passed (shape .m) (shape .k) (shape .b) (length filled) map (length bench) (record { shape = g .shape; stripe = h .size ∙ long; held = room; clear = not-stray g }) few)
+            (gaps-passed (shape .m) (shape .k) (shape .b) (length filled) map (length bench) (record { shape = g .shape; stripe = h .size ∙ long; held = room; truth = formed-truth f; clear = not-stray g }) few)
             (r .told));
         benches = (refl, r .kept e refl);
       }

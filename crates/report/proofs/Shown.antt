@@ -46,7 +46,7 @@ module _ {m k b : ℕ} {map : Map} (s bench : RefT (List ℕ)) (held : Held m k 
       (rw absent same, long)
   placed (Refused f) h part =
       absurd (passes-not f (gives-one (showRules m k b map (length (now s)) (length (now bench)) t) pass (refuse f)
-      (passes m k b map (now s) (now bench) t (record { shape = held .shape; stripe = held .stripe; held = held .room; clear = held .clear; named = below; few = held .few }))
+      (passes m k b map (now s) (now bench) t (record { shape = held .shape; stripe = held .stripe; held = held .room; truth = held .truth; clear = held .clear; named = below; few = held .few }))
       (h .told)))
 
   pub held-shown : Shows m k b map s bench t r → (now r ≡ shown m b (map .places) (now s) (now bench) t) × (length (now r) ≡ columnLength m b)

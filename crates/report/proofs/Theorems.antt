@@ -36,7 +36,7 @@ use Rattle.report.specs.declared.judging.Judgement.{Judgement}
 use Rattle.report.specs.Judgements.{Formed, verdictOf, partRules, Benches, JudgesParts, stripeOf, benchOf, formedRules, InParts, Unwritten, Leaves, JudgesFormed, Rejected}
 use Rattle.report.specs.Reports.{textOf}
 use Rattle.report.specs.Theorems.{JudgesImageOne, ReportsOne, AnswerAlone, Enough}
-use Rattle.report.proofs.Judged.{by-contents, formed-good, not-stray, read-passes, skip}
+use Rattle.report.proofs.Judged.{by-contents, formed-good, formed-truth, not-stray, read-passes, skip}
 use Rattle.report.proofs.Told.{most}
 
 -- the refusals 2 and 3: no other refusal is one of them
@@ -65,14 +65,14 @@ module _ {image : List ℕ} (s bench : List ℕ) {shape : Shape} {map : Map} (f 
     (long : length s ≡ stripeOf shape) (room : length bench ≡ benchOf shape) where
   reads : {x : List ℕ} → Filled (shape .m) (shape .k) (shape .b) (map .places) image s x
       → ReadInto image s x (record { answer = read.Shape (shape .m) (shape .k) (shape .b); map = map })
-  reads h = record { told = read-passes s f long; fills = (formed-good f .own, h) }
+  reads h = record { told = read-passes s f long; fills = (formed-good f .own, h, formed-truth f) }
 
   rules : {x : List ℕ} {v : Verdict} → length x ≡ length s → Gives (partRules shape map x) v
       → Gives (restoreRules (shape .m) (shape .k) (shape .b) map x (length bench)) v
   rules {x} e told =
       let g = formed-good f in
       gives-after (gapRules (shape .m) (shape .k) (shape .b) map (length x) (length bench)) (partRules shape map x) _
-      (gaps-passed (shape .m) (shape .k) (shape .b) (length x) map (length bench) (record { shape = g .shape; stripe = e ∙ long; held = room; clear = not-stray g }) few) told
+      (gaps-passed (shape .m) (shape .k) (shape .b) (length x) map (length bench) (record { shape = g .shape; stripe = e ∙ long; held = room; truth = formed-truth f; clear = not-stray g }) few) told
 
   restores : (x y : List ℕ) (o : Outcome) → length x ≡ length s → Gives (partRules shape map x) (verdictOf o) → Benches shape map x bench y o
       → (r : Restored) × Restores (shape .m) (shape .k) (shape .b) map x bench y r × (o ≡ outcomeBy shape r)

@@ -35,7 +35,7 @@ use Rattle.report.specs.Shown.{shown, Held}
 use Rattle.report.specs.Lines.{shapeLine, columnLines, answerLine}
 use Rattle.report.specs.Judgements.{Formed, stripeOf, benchOf, Leaves, JudgesFormed, JudgesImage}
 use Rattle.report.specs.Reports.{completeText, textOf, Tellable, Reports}
-use Rattle.report.proofs.Judged.{by-contents, formed-good, not-stray, bench-size}
+use Rattle.report.proofs.Judged.{by-contents, formed-good, formed-truth, not-stray, bench-size}
 
 -- each place is present or absent
 present-absent : (n : ℕ) (map : List Bool) → presentBelow n map + absentBelow n map ≡ n
@@ -115,7 +115,7 @@ module _ {image s after bench benched : List ℕ} where
         let size = p .read .size ∙ length-take-le (stripeOf shape) s (omega arith) in
         let double = bench-size shape (j .map) _ _ _ (outcome.Complete shape) (p .benches) ∙ length-take-le (benchOf shape) bench (omega arith) in
         record {
-          held = record { shape = g .shape; stripe = size; room = double; clear = not-stray g; few = omega arith };
+          held = record { shape = g .shape; stripe = size; room = double; truth = formed-truth (t .formed); clear = not-stray g; few = omega arith };
           long = whole (stripeOf shape) after size;
           spare = whole (benchOf shape) benched double;
           fits = omega (arith, text-room g (t .short) (omega arith));

@@ -11,6 +11,7 @@ use Rattle.parity.specs.Shape.{Shape, columnLength, stripeLength, benchLength}
 use Rattle.parity.specs.Presence.{present, absences}
 use Rattle.inputs.specs.declared.maps.Map.{Map}
 use Rattle.inputs.specs.Absent.{Stray}
+use Rattle.inputs.specs.Truth.{TrueMap}
 use Rattle.evenodd.specs.Shows.{half}
 
 unfoldable pub columnBytes : ℕ → ℕ → List ℕ → ℕ → List ℕ
@@ -23,5 +24,6 @@ pub record Held (m k b : ℕ) (map : Map) (s bench : List ℕ) : Type 0 where
   pub shape : Shape m k b
   pub stripe : length s ≡ stripeLength m k b
   pub room : length bench ≡ benchLength m b
+  pub truth : TrueMap map
   pub clear : Stray k (map .places) → ⊥
   pub few : absences k (map .places) ≤ 2

@@ -5,12 +5,10 @@ use evenodd::Refusal;
 use evenodd::Restored;
 use image::Read;
 ghost use mathlib.Core.Path.{_≡_};
-ghost use mathlib.Core.Bool.{not, cond};
 ghost use Prim.Native.Nat.{_≤_};
 ghost use lib.ListN.{length};
 ghost use Rattle.parity.specs.Shape.{stripeLength, benchLength};
 ghost use Rattle.parity.specs.Presence.{absences};
-ghost use Rattle.inputs.specs.Absent.{absentBelow};
 ghost use Rattle.report.specs.Judgements.{JudgesParts, JudgesFormed, JudgesImage, Formed};
 
 // What came of an image: every column is there, in the stripe or in the bench; three or more are absent; those that are present contradict
@@ -26,24 +24,6 @@ pub enum Outcome {
 pub struct Judgement {
     pub outcome: Outcome,
     pub map: Map,
-}
-
-// One for an absent column.
-fn absence(there: bool) -> usize
-    ensures { λ r. ⌜ (r ≡ cond (not there) 1 0) × (r ≤ 1) ⌝ }
-{
-    if there { 0 } else { 1 }
-}
-
-// How many of the first n columns are absent.
-fn count_absent(map: Map, n: usize) -> usize
-    ensures { λ r. ⌜ r ≡ absentBelow n (map .places) ⌝ }
-{
-    let mut absent = 0;
-    for t in 0..n {
-        absent += absence(map.is_present(t));
-    }
-    absent
 }
 
 // Reads a well-formed image into a stripe of its length, and restores into a bench of its length.
@@ -74,7 +54,7 @@ fn judge_formed(
     ensures { λ r. ⌜ JudgesFormed shape map (now (image .entry)) (now (stripe .entry)) (now (stripe .exit)) (now (bench .entry)) (now (bench .exit)) r ⌝ }
 {
     let columns = shape.k + 2;
-    if 2 < count_absent(map, columns) {
+    if 2 < columns - map.present() {
         return Outcome::Ambiguous(shape);
     }
     let column = (shape.m - 1) * shape.b;

@@ -1,13 +1,18 @@
 -- `cases::five` meets its contract: a place more with each mark.
-use mathlib.Core.Path.{_≡_, sym, _∙_}
+use mathlib.Core.Path.{_≡_, refl, sym, _∙_}
 use mathlib.Core.Logic.{by-cases}
 use mathlib.Core.Bool.{Bool, true, cond}
-use Prim.Native.Nat.{ℕ, _+_}
+use Prim.Native.Nat.{ℕ, _+_, _<_}
 use native.Mathlib.Decide.{ℕ-discrete, decLt}
 use native.Mathlib.Omega.{arith}
 use lib.Dec.{eqb, ltb}
 use borrow.Author.Needs.{needs}
 use borrow.Author.Tests.{lt-ltb, le-ltb, eq-eqb, ne-eqb}
+use Rattle.parity.specs.Presence.{present}
+use Rattle.inputs.specs.declared.maps.Map.{Map}
+use Rattle.inputs.specs.Maps.{Marks}
+use Rattle.inputs.specs.Truth.{TrueMap}
+use Rattle.inputs.proofs.Rules.{gives-next}
 use Rattle.cases.proofs.five.Statement.{statement}
 use Rattle.cases.proofs.five.Tie as tie
 
@@ -18,6 +23,13 @@ next n t x y p q = by-cases (ℕ-discrete t n)
     (λ ne. q ∙ rw (ne-eqb t n ne) (p ∙ by-cases (decLt t n)
     (λ l. lt-ltb t n l ∙ sym (lt-ltb t (n + 1) (omega arith)))
     (λ o. le-ltb t n (omega arith) ∙ sym (le-ltb t (n + 1) (by-cases (decLt n t) (λ l. omega arith) (λ k. absurd (ne (omega arith))))))))
+
+-- so a true map with the places below n present has place n too
+more : (n : ℕ) (map after : Map) → n < 129 → ((t : ℕ) → present (map .places) t ≡ ltb t n) → TrueMap map → Marks true map n after
+    → ((t : ℕ) → present (after .places) t ≡ ltb t (n + 1)) × TrueMap after
+more n map after l there truth marks =
+    let done = marks .done (gives-next (λ lies. lies truth) (gives-next (λ far. omega arith) refl)) in
+    (λ t. next n t _ _ (there t) (done .at t), done .truth)
 
 new-requires : tie.Need-new-requires
 new-requires c κs = search needs
@@ -38,21 +50,17 @@ mark-present-requires-5 : tie.Need-mark-present-requires-5
 mark-present-requires-5 c κs = search needs
 
 returns : tie.Need-returns
-returns c t =
+returns c =
     let four = c .before in
     let three = four .before in
     let two = three .before in
     let one = two .before in
-    let none = one .before in
-    next 4 t _ _
-    (next 3 t _ _
-    (next 2 t _ _
-    (next 1 t _ _
-    (next 0 t _ _ (none .new .ensures .absent t ∙ sym (le-ltb t 0 (omega arith))) (one .mark-present .ensures .done (omega arith) t))
-    (two .mark-present2 .ensures .done (omega arith) t))
-    (three .mark-present3 .ensures .done (omega arith) t))
-    (four .mark-present4 .ensures .done (omega arith) t))
-    (c .mark-present5 .ensures .done (omega arith) t)
+    let none = one .before .new .ensures in
+    let first = more 0 _ _ (omega arith) (λ t. none .absent t ∙ sym (le-ltb t 0 (omega arith))) (none .truth) (one .mark-present .ensures) in
+    let second = more 1 _ _ (omega arith) (first .0) (first .1) (two .mark-present2 .ensures) in
+    let third = more 2 _ _ (omega arith) (second .0) (second .1) (three .mark-present3 .ensures) in
+    let fourth = more 3 _ _ (omega arith) (third .0) (third .1) (four .mark-present4 .ensures) in
+    more 4 _ _ (omega arith) (fourth .0) (fourth .1) (c .mark-present5 .ensures)
 
 pub five-spec : {M : Type 1} → statement M
 five-spec =

@@ -120,14 +120,18 @@ returns-6 c =
     let (shape, column) = good at in
     refused-contents _ _ (c .refused6 .ensures) (contents-ill (head at) shape (ill-length (head at) shape column (of .of .ensures) (not-false _ (four .if4 .left)) (c .before .if5 .taken)))
 
+of-places-requires : tie.Need-of-places-requires
+of-places-requires c κs = tt
+
 returns-7 : tie.Need-returns-7
 returns-7 c =
-    let four = c .before .before .before in
+    let five = c .before .before in
+    let four = five .before .before in
     let of = four .before .before in
     let at = of .before .before in
     let (shape, column) = good at in
     let start = at .before .before .before .before .before .before .before .before .before .before in
-    contents-good (head at) shape column (of .of .ensures) (λ x. omega (arith, start .shared-slice-known .given x)) (not-false _ (four .if4 .left)) (c .before .if5 .left)
+    contents-good (head at) shape column (of .of .ensures) (λ x. omega (arith, start .shared-slice-known .given x)) (not-false _ (four .if4 .left)) (five .if5 .left) (c .of-places .ensures)
 
 pub contents-spec : {M : Type 1} → statement M
 contents-spec =
@@ -157,4 +161,5 @@ contents-spec =
     returns-5
     refused-requires-6
     returns-6
+    of-places-requires
     returns-7)

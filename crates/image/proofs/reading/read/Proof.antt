@@ -5,7 +5,7 @@ use denote.Ref.{now}
 use Rattle.parity.specs.Shape.{columnLength, stripeLength}
 use Rattle.inputs.proofs.Shape.{column-most, places-most, parts-most}
 use Rattle.image.proofs.Formed.{formed-bodies}
-use Rattle.image.proofs.Filling.{Good, good-contents, read-refused, read-length, read-good}
+use Rattle.image.proofs.Filling.{Good, good-contents, good-truth, read-refused, read-length, read-good}
 use borrow.Author.Needs.{needs}
 use native.Mathlib.Omega.{arith}
 use Rattle.image.proofs.reading.read.Statement.{statement}
@@ -65,6 +65,7 @@ unfolding columnLength stripeLength
 returns-3 c =
     let one = c .before .before .before .before .before in
     read-good _ _ _ (good (one .before)) (one .before .before .answer .given .1) (one .if1 .left) (c .before .before .copy-bodies .ensures)
+    (good-truth _ (one .before .before .before .before .contents .result) (one .before .before .before .before .contents .ensures) (one .before .before .answer .given .1))
 
 pub read-spec : {M : Type 1} → statement M
 read-spec =

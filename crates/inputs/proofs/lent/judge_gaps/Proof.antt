@@ -1,13 +1,15 @@
--- `inputs::lent::judge_gaps` meets its contract: the verdict on what is lent is passed on, or the absent columns are counted.
-use mathlib.Core.Path.{refl}
+-- `inputs::lent::judge_gaps` meets its contract: the verdict on what is lent is passed on, or the count is asked. That 4 is read from the count is a law of
+-- true maps.
+use mathlib.Core.Path.{_≡_, refl}
 use mathlib.Core.List.{[], _∷_}
-use Prim.Native.Nat.{_+_}
+use Prim.Native.Nat.{_+_, _≤_}
 use native.Mathlib.Omega.{arith}
-use Rattle.inputs.specs.Absent.{Counts}
-use Rattle.inputs.proofs.Absent.{absences-below}
+use Rattle.parity.specs.Presence.{absences}
+use Rattle.inputs.specs.Truth.{absentByCount}
 use Rattle.inputs.specs.Rules.{tooManyAbsent, lentRules}
 use Rattle.inputs.proofs.Rules.{gives-first, gives-next, gives-after}
 use Rattle.inputs.proofs.Shape.{places-most}
+use Rattle.inputs.proofs.Truth.{absent-counted}
 use Rattle.inputs.proofs.Tests.{told-refused, Lent, lent-good}
 use Rattle.inputs.proofs.lent.judge_gaps.Statement.{statement}
 use Rattle.inputs.proofs.lent.judge_gaps.Tie as tie
@@ -15,10 +17,6 @@ use Rattle.inputs.proofs.lent.judge_gaps.Tie as tie
 good : (c : tie.After-known-told) → let a = c .before .before .before .before .args in
     Lent (a .m) (a .k) (a .b) (a .length) (a .map) (a .held) (c .before .judged .given .0 .0)
 good c = let at = c .before .before .before in lent-good _ _ _ _ _ _ (at .judge-lent .result) (at .judge-lent .ensures) (c .before .judged .given .1)
-
--- k + 2 places are at most 129
-found : (c : tie.After-gaps) → let a = c .before .before .before .before .before .args in Counts (a .k + 2) (a .map .places) (c .gaps .result)
-found c = c .gaps .ensures .some (places-most (good (c .before) .numbers .shape))
 
 judge-lent-requires : tie.Need-judge-lent-requires
 judge-lent-requires c κs = tt
@@ -42,32 +40,43 @@ returns c =
       good = tt;
     }
 
-add-gaps : tie.Need-add-gaps
-add-gaps c = omega (arith, places-most (good c .numbers .shape))
+add-columns : tie.Need-add-columns
+add-columns c = omega (arith, places-most (good c .numbers .shape))
+
+present-requires : tie.Need-present-requires
+present-requires c κs = tt
+
+-- how many columns are absent, by the count
+absent : (c : tie.After-known-told) → let a = c .before .before .before .before .args in
+    (a .map .present ≤ a .k + 2) × (absences (a .k) (a .map .places) ≡ absentByCount (a .k) (a .map))
+absent c = absent-counted _ (good c .truth) _ (good c .clear)
+
+sub-if1 : tie.Need-sub-if1
+sub-if1 c = omega (arith, absent (c .before) .0, c .present .ensures)
+
+returns-2 : tie.Need-returns-2
+returns-2 c =
+    let p = c .before in
+    let a = p .before .before .before .before .before .args in
+    let e = absent (p .before) .1 in
+    record {
+      told = gives-after (lentRules (a .m) (a .k) (a .b) (a .map) (a .length) (a .held)) (tooManyAbsent (a .k) (a .map) ∷ []) _
+          (good (p .before) .tests) (gives-first (omega (arith, p .present .ensures, c .if1 .taken)));
+      good = tt;
+    }
 
 gaps-requires : tie.Need-gaps-requires
 gaps-requires c κs = tt
 
-returns-2 : tie.Need-returns-2
-returns-2 c =
-    let g = c .before .before in
-    let a = g .before .before .before .before .before .args in
-    let e = absences-below (a .k) (a .map .places) in
-    record {
-      told = gives-after (lentRules (a .m) (a .k) (a .b) (a .map) (a .length) (a .held)) (tooManyAbsent (a .k) (a .map) ∷ []) _
-          (good (g .before) .tests) (gives-first (omega (arith, found g .count, c .if1 .taken)));
-      good = tt;
-    }
-
 returns-3 : tie.Need-returns-3
 returns-3 c =
-    let g = c .before .before in
-    let a = g .before .before .before .before .before .args in
-    let e = absences-below (a .k) (a .map .places) in
+    let p = c .before .before in
+    let a = p .before .before .before .before .before .args in
+    let e = absent (p .before) .1 in
     record {
       told = gives-after (lentRules (a .m) (a .k) (a .b) (a .map) (a .length) (a .held)) (tooManyAbsent (a .k) (a .map) ∷ []) _
-          (good (g .before) .tests) (gives-next (λ h. omega (arith, found g .count, c .if1 .left)) refl);
-      good = (good (g .before) .numbers .column, found g);
+          (good (p .before) .tests) (gives-next (λ h. omega (arith, p .present .ensures, c .before .if1 .left)) refl);
+      good = (good (p .before) .numbers .column, c .gaps .ensures .some (places-most (good (p .before) .numbers .shape)));
     }
 
 pub judge-gaps-spec : {M : Type 1} → statement M
@@ -79,7 +88,9 @@ judge-gaps-spec =
     enum-told
     refusal-requires
     returns
-    add-gaps
-    gaps-requires
+    add-columns
+    present-requires
+    sub-if1
     returns-2
+    gaps-requires
     returns-3)

@@ -12,15 +12,14 @@ use Rattle.inputs.proofs.maps.count_present.Statement.{statement}
 use Rattle.inputs.proofs.maps.count_present.Tie as tie
 
 abbrev Inv-loop : tie.InvT-loop
-Inv-loop n places c₀ t₀ c t = (t ≤ n) × (c ≡ count t (present places))
+Inv-loop places c₀ t₀ c t = (t ≤ 129) × (c ≡ count t (present places))
 
 abbrev μ-loop : tie.MeasureT-loop
-μ-loop n places c₀ t₀ c t = n - t
+μ-loop places c₀ t₀ c t = 129 - t
 
 loop-holds : tie.Need-loop-holds Inv-loop μ-loop
 unfolding count
-loop-holds c =
-    (omega arith, refl)
+loop-holds c = (omega arith, refl)
 
 array-read-c : tie.Need-array-read-c Inv-loop μ-loop
 array-read-c c = search needs
@@ -46,10 +45,13 @@ loop-again c =
     let y = c .before .loop in
     (omega arith, ap (λ (n : ℕ). n + boolByte (present (c .before .before .args .t1) (y .t))) (y .inv .1) ∙ present-more (y .t) (c .before .before .args .t1))
 
+cast-result : tie.Need-cast-result Inv-loop μ-loop
+cast-result c = omega (arith, c .before .loop .inv .1, count-most (c .before .loop .t) (present (c .before .before .args .t1)))
+
 returns : tie.Need-returns Inv-loop μ-loop
 returns c =
     let y = c .before .loop in
-    let e : y .t ≡ c .before .before .args .n = omega (arith, y .inv .0, c .loop-test .left) in
+    let e : y .t ≡ 129 = omega (arith, y .inv .0, c .loop-test .left) in
     y .inv .1 ∙ ap (λ (t : ℕ). count t (present (c .before .before .args .t1))) e
 
 pub count-present-spec : {M : Type 1} → statement M
@@ -65,4 +67,5 @@ count-present-spec =
     add-t
     loop-less
     loop-again
+    cast-result
     returns)

@@ -4,8 +4,7 @@ use Prim.Native.Nat.{_+_, _*_, _-_}
 use denote.Ref.{now}
 use Rattle.parity.specs.Shape.{columnLength, stripeLength, benchLength}
 use Rattle.inputs.proofs.Shape.{column-most, places-most, parts-most}
-use Rattle.inputs.proofs.Presence.{absences-below}
-use Rattle.report.proofs.Judged.{formed-good, part-size, formed-ambiguous, formed-stripe, formed-bench, formed-lent}
+use Rattle.report.proofs.Judged.{formed-good, formed-absent, part-size, formed-ambiguous, formed-stripe, formed-bench, formed-lent}
 use borrow.Author.Needs.{needs}
 use native.Mathlib.Omega.{arith}
 use Rattle.report.proofs.judging.judge_formed.Statement.{statement}
@@ -14,13 +13,16 @@ use Rattle.report.proofs.judging.judge_formed.Tie as tie
 add-columns : tie.Need-add-columns
 add-columns c = omega (arith, places-most (formed-good (c .before .before .before .before .pre) .shape))
 
-count-absent-requires : tie.Need-count-absent-requires
-count-absent-requires c κs = search needs
+present-requires : tie.Need-present-requires
+present-requires c κs = tt
+
+sub-if1 : tie.Need-sub-if1
+sub-if1 c = omega (arith, formed-absent (c .before .before .before .before .before .pre) .0, c .present .ensures)
 
 returns : tie.Need-returns
 unfolding stripeLength benchLength columnLength
 returns c =
-    formed-ambiguous (omega (arith, absences-below (c .before .before .before .before .before .before .args .shape .k) (c .before .before .before .before .before .before .args .map .places), c .before .count-absent .ensures))
+    formed-ambiguous (omega (arith, formed-absent (c .before .before .before .before .before .before .pre) .1, c .before .present .ensures))
 
 sub-column : tie.Need-sub-column
 sub-column c =
@@ -44,12 +46,12 @@ mul-double c =
 returns-2 : tie.Need-returns-2
 unfolding stripeLength benchLength columnLength
 returns-2 c =
-    formed-stripe (omega (arith, absences-below (c .before .before .before .before .before .before .before .before .before .args .shape .k) (c .before .before .before .before .before .before .before .before .before .args .map .places), c .before .before .before .before .count-absent .ensures)) (c .if2 .taken)
+    formed-stripe (omega (arith, formed-absent (c .before .before .before .before .before .before .before .before .before .pre) .1, c .before .before .before .before .present .ensures)) (c .if2 .taken)
 
 returns-3 : tie.Need-returns-3
 unfolding stripeLength benchLength columnLength
 returns-3 c =
-    formed-bench (omega (arith, absences-below (c .before .before .before .before .before .before .before .before .before .before .args .shape .k) (c .before .before .before .before .before .before .before .before .before .before .args .map .places), c .before .before .before .before .before .count-absent .ensures)) (omega arith) (omega arith)
+    formed-bench (omega (arith, formed-absent (c .before .before .before .before .before .before .before .before .before .before .pre) .1, c .before .before .before .before .before .present .ensures)) (omega arith) (omega arith)
 
 sub-judge-parts : tie.Need-sub-judge-parts
 sub-judge-parts c = search needs
@@ -74,7 +76,7 @@ unfolding stripeLength benchLength columnLength
 judge-parts-requires c κs =
     let a = c .before .before .before .before .before .before .before .before .before .before .before .before .args in
     let column = (a .shape .m - 1) * a .shape .b in
-    (c .before .before .before .before .before .before .before .before .before .before .before .before .pre, omega (arith, absences-below (c .before .before .before .before .before .before .before .before .before .before .before .before .args .shape .k) (c .before .before .before .before .before .before .before .before .before .before .before .before .args .map .places), c .before .before .before .before .before .before .before .count-absent .ensures), part-size ((a .shape .k + 2) * column) (now (a .stripe)) (omega arith), part-size (2 * column) (now (a .bench)) (omega arith))
+    (c .before .before .before .before .before .before .before .before .before .before .before .before .pre, omega (arith, formed-absent (c .before .before .before .before .before .before .before .before .before .before .before .before .pre) .1, c .before .before .before .before .before .before .before .present .ensures), part-size ((a .shape .k + 2) * column) (now (a .stripe)) (omega arith), part-size (2 * column) (now (a .bench)) (omega arith))
 
 same-length : tie.Need-same-length
 same-length c = search needs
@@ -87,14 +89,15 @@ unfolding stripeLength benchLength columnLength
 returns-4 c =
     let a = c .before .before .before .before .before .before .before .before .before .before .before .before .before .before .before .before .before .args in
     let column = (a .shape .m - 1) * a .shape .b in
-    formed-lent (omega (arith, absences-below (c .before .before .before .before .before .before .before .before .before .before .before .before .before .before .before .before .before .args .shape .k) (c .before .before .before .before .before .before .before .before .before .before .before .before .before .before .before .before .before .args .map .places), c .before .before .before .before .before .before .before .before .before .before .before .before .count-absent .ensures)) (omega arith) (omega arith) _ _ ((a .shape .k + 2) * column) (2 * column) refl refl _ (c .before .before .before .before .judge-parts .ensures)
+    formed-lent (omega (arith, formed-absent (c .before .before .before .before .before .before .before .before .before .before .before .before .before .before .before .before .before .pre) .1, c .before .before .before .before .before .before .before .before .before .before .before .before .present .ensures)) (omega arith) (omega arith) _ _ ((a .shape .k + 2) * column) (2 * column) refl refl _ (c .before .before .before .before .judge-parts .ensures)
 
 pub judge-formed-spec : {M : Type 1} → statement M
 judge-formed-spec =
     tie.close
     (tie.spec
     add-columns
-    count-absent-requires
+    present-requires
+    sub-if1
     returns
     sub-column
     mul-column

@@ -10,11 +10,11 @@ state-of-requires c κs = search needs
 enum-told : tie.Need-enum-told
 enum-told c = search needs
 
-mark-present-requires : tie.Need-mark-present-requires
-mark-present-requires c κs = search needs
+array-write-places : tie.Need-array-write-places
+array-write-places c = search needs
 
-add-t11 : tie.Need-add-t11
-add-t11 c = search needs
+add-t13 : tie.Need-add-t13
+add-t13 c = search needs
 
 enum-told-2 : tie.Need-enum-told-2
 enum-told-2 c = search needs
@@ -24,9 +24,9 @@ enum-told-3 c = search needs
 
 returns : tie.Need-returns
 returns c =
-    let at = c .before .before .before in
-    let a = at .before .before .before .args in
-    λ start w. walked-present _ start _ _ (a .self) w _ (at .before .before .before .pre .1) (rw (c .before .enum-told .given .1) at (at .state-of .ensures)) (c .mark-present .ensures)
+    let at = c .before .before in
+    let start = at .before .before .before in
+    λ from w. walked-present _ from _ _ (start .args .self) w (start .pre .1) (rw (c .enum-told .given .1) at (at .state-of .ensures))
 
 returns-2 : tie.Need-returns-2
 returns-2 c =
@@ -44,8 +44,8 @@ entered-spec =
     (tie.spec
     state-of-requires
     enum-told
-    mark-present-requires
-    add-t11
+    array-write-places
+    add-t13
     enum-told-2
     enum-told-3
     returns

@@ -15,9 +15,6 @@ Inv-loop image columns column table₀ t₀ table t = (t ≤ columns) × WalkedC
 abbrev μ-loop : tie.MeasureT-loop
 μ-loop image columns column table₀ t₀ table t = columns - t
 
-new-requires : tie.Need-new-requires Inv-loop μ-loop
-new-requires c κs = tt
-
 mul-t7 : tie.Need-mul-t7 Inv-loop μ-loop
 mul-t7 c = search needs
 
@@ -25,12 +22,12 @@ add-t8 : tie.Need-add-t8 Inv-loop μ-loop
 add-t8 c = search needs
 
 loop-holds : tie.Need-loop-holds Inv-loop μ-loop
-loop-holds c = (search needs, walked-none _ _ _ _ (c .new .ensures))
+loop-holds c = (search needs, walked-none _ _ _)
 
 entered-requires : tie.Need-entered-requires Inv-loop μ-loop
 entered-requires c κs =
     let at = c .before in
-    let start = at .before .before .before in
+    let start = at .before .before in
     let product : at .loop .t * start .args .column ≤ 129 * 516096 = mul-le-mul {n₂ = 129} {m₂ = 516096} (omega arith) (omega arith) in
     (omega arith, omega arith, omega (arith, at .loop .inv .1 .most))
 
@@ -46,7 +43,7 @@ loop-again c = (search needs, c .entered .ensures _ (c .before .before .loop .in
 returns : tie.Need-returns Inv-loop μ-loop
 returns c =
     let at = c .before in
-    let e : at .loop .t ≡ at .before .before .before .args .columns = omega arith in
+    let e : at .loop .t ≡ at .before .before .args .columns = omega arith in
     rw e at (at .loop .inv .1)
 
 pub of-spec : {M : Type 1} → statement M
@@ -55,7 +52,6 @@ of-spec =
     (tie.spec
     Inv-loop
     μ-loop
-    new-requires
     mul-t7
     add-t8
     loop-holds

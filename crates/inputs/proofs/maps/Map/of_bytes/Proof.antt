@@ -33,8 +33,11 @@ loop-less c = search needs
 loop-again : tie.Need-loop-again Inv-loop μ-loop
 loop-again c = (search needs, filled-more _ _ _ _ (c .before .before .loop .inv .1) (search needs))
 
+of-places-requires : tie.Need-of-places-requires Inv-loop μ-loop
+of-places-requires c κs = tt
+
 returns : tie.Need-returns Inv-loop μ-loop
-returns c = of-bytes _ _ (c .before .loop .t) (c .before .loop .inv .1) (search needs)
+returns c = let at = c .before .before in of-bytes _ _ (at .loop .t) _ (at .loop .inv .1) (search needs) (c .of-places .ensures)
 
 pub of-bytes-spec : {M : Type 1} → statement M
 of-bytes-spec =
@@ -48,4 +51,5 @@ of-bytes-spec =
     add-t
     loop-less
     loop-again
+    of-places-requires
     returns)
