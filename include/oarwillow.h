@@ -11,6 +11,8 @@
  *    4  three or more columns absent           9  map has a place at or above k + 2 present
  *    5  no valid stripe agrees with           12  k is 0 or above m
  *       every present column                  13  b is 0 or above 4,096
+ * 17, for a map whose two numbers are not what its places say, is never given here: in C a map is its places alone, of which the count of
+ * present places and the highest one are made on the way in.
  * The first that applies, in the order given at each call. A refused call changes no byte of a stripe or bench. The numbers behind
  * pointers, and the places that oarwillow_read gives, are results: they are written on every call, also on a refused one.
  *
@@ -54,6 +56,13 @@ uint8_t oarwillow_show(size_t m, size_t k, size_t b, const uint8_t places[129], 
  * number, 1, 12, 13, 8 for any other departure, 2. */
 uint8_t oarwillow_read(const uint8_t *image, size_t image_len, uint8_t *stripe, size_t stripe_len, uint8_t places[129], size_t *m,
                        size_t *k, size_t *b);
+
+/* Says what a map has: `present`, how many of its 129 places are present, and `highest`, the highest of them, 129 for none; and of the
+ * places 0 to k + 1, which are the columns with k data columns, `absent`, how many are absent, and `first` and `second`, the two lowest
+ * of these, 129 for none. k is any number: the map has no place from 129 on, so from k = 127 on all 129 are meant. It is never refused:
+ * it returns 0. */
+uint8_t oarwillow_gaps(size_t k, const uint8_t places[129], size_t *present, size_t *highest, size_t *absent, size_t *first,
+                       size_t *second);
 
 #ifdef __cplusplus
 }

@@ -15,6 +15,7 @@ uint8_t unproved_mend(size_t m, size_t k, size_t b, Part *stripe, size_t *column
 uint8_t unproved_show(size_t m, size_t k, size_t b, const uint8_t *places, Part *stripe, Part *bench, size_t column,
                       size_t *from_bench, size_t *start, size_t *length);
 uint8_t unproved_read(Part *image, Part *stripe, uint8_t *places, size_t *m, size_t *k, size_t *b);
+uint8_t unproved_gaps(size_t k, const uint8_t *places, size_t *present, size_t *highest, size_t *absent, size_t *first, size_t *second);
 
 uint8_t oarwillow_encode(size_t m, size_t k, size_t b, uint8_t *stripe, size_t stripe_len)
 {
@@ -53,4 +54,9 @@ uint8_t oarwillow_read(const uint8_t *image, size_t image_len, uint8_t *stripe, 
 {
     Part i = {image, image_len}, s = {stripe, stripe_len};
     return unproved_read(&i, &s, places, m, k, b);
+}
+
+uint8_t oarwillow_gaps(size_t k, const uint8_t places[129], size_t *present, size_t *highest, size_t *absent, size_t *first, size_t *second)
+{
+    return unproved_gaps(k, places, present, highest, absent, first, second);
 }

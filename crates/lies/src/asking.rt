@@ -1,4 +1,5 @@
 // What is asked with a map, a line each, in the form `CASE OPERATION ANSWER`. The stripe is that of the numbers' C1.
+use evenodd::Gaps;
 use evenodd::Map;
 use evenodd::Marked;
 use say::restore_line;
@@ -98,17 +99,26 @@ fn mark_lines(out: &mut [u8], at: usize, name: &[u8], map: Map) -> usize {
     )
 }
 
-// Whether place 4 is present, whether one from 5 on is, the gaps below 5, and the map of its bytes.
+// Whether place 4 is present, and whether one from 5 on is.
+fn say_places(out: &mut [u8], at: usize, map: Map) -> usize {
+    let next = say_whether(out, at, map.is_present(4));
+    say_whether(out, next, map.strays(5))
+}
+
+// The gaps below 5.
+fn say_gaps(out: &mut [u8], at: usize, gaps: Gaps) -> usize {
+    let first = say_number(out, at, gaps.count);
+    let second = say_number(out, first, gaps.first);
+    say_number(out, second, gaps.second)
+}
+
+// What is asked of the map: its places, its gaps, and the map of its bytes.
 fn question_line(out: &mut [u8], at: usize, name: &[u8], map: Map) -> usize {
     let first = say_head(out, at, name, b" questions");
-    let second = say_whether(out, first, map.is_present(4));
-    let third = say_whether(out, second, map.strays(5));
-    let gaps = map.gaps(5);
-    let fourth = say_number(out, third, gaps.count);
-    let fifth = say_number(out, fourth, gaps.first);
-    let sixth = say_number(out, fifth, gaps.second);
+    let second = say_places(out, first, map);
+    let third = say_gaps(out, second, map.gaps(5));
     let bytes = map.bytes();
-    let last = say_kept(out, sixth, Map::of_bytes(&bytes));
+    let last = say_kept(out, third, Map::of_bytes(&bytes));
     say_word(out, last, b"\n")
 }
 

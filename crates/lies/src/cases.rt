@@ -49,26 +49,47 @@ fn case(
     map_lines(out, at, name, Map::of_parts(places, present, highest))
 }
 
-// One number is off, or both are.
-fn numbers_off(out: &mut [u8], at: usize) -> usize {
+// The count is right, and one off.
+fn count_off(out: &mut [u8], at: usize) -> usize {
     let a = case(out, at, b"five", five(), 5, 4);
     let b = case(out, a, b"count=4", five(), 4, 4);
-    let c = case(out, b, b"count=6", five(), 6, 4);
-    let d = case(out, c, b"highest=3", five(), 5, 3);
-    let e = case(out, d, b"highest=5", five(), 5, 5);
-    case(out, e, b"highest=129", five(), 5, 129)
+    case(out, b, b"count=6", five(), 6, 4)
 }
 
-// Numbers far out: right in their last byte, and the largest.
-fn numbers_far(out: &mut [u8], at: usize) -> usize {
+// The highest place is one off, or none.
+fn highest_off(out: &mut [u8], at: usize) -> usize {
+    let a = case(out, at, b"highest=3", five(), 5, 3);
+    let b = case(out, a, b"highest=5", five(), 5, 5);
+    case(out, b, b"highest=129", five(), 5, 129)
+}
+
+// Numbers that are right in their last byte.
+fn one_byte_right(out: &mut [u8], at: usize) -> usize {
+    let next = case(out, at, b"count=261", five(), 261, 4);
+    case(out, next, b"highest=260", five(), 5, 260)
+}
+
+// The largest number that there is.
+fn largest(out: &mut [u8], at: usize) -> usize {
     let most = 18446744073709551615;
-    let a = case(out, at, b"count=261", five(), 261, 4);
-    let b = case(out, a, b"highest=260", five(), 5, 260);
-    let c = case(out, b, b"count=max", five(), most, 4);
-    let d = case(out, c, b"highest=max", five(), 5, most);
-    let e = case(out, d, b"both=max", five(), most, most);
-    let f = case(out, e, b"both=0", five(), 0, 0);
-    case(out, f, b"swapped", five(), 4, 5)
+    let a = case(out, at, b"count=max", five(), most, 4);
+    let b = case(out, a, b"highest=max", five(), 5, most);
+    case(out, b, b"both=max", five(), most, most)
+}
+
+// Both are 0, and each stands in the other's place.
+fn both_off(out: &mut [u8], at: usize) -> usize {
+    let next = case(out, at, b"both=0", five(), 0, 0);
+    case(out, next, b"swapped", five(), 4, 5)
+}
+
+// Of C1's columns all are present.
+fn five_present(out: &mut [u8], at: usize) -> usize {
+    let a = count_off(out, at);
+    let b = highest_off(out, a);
+    let c = one_byte_right(out, b);
+    let d = largest(out, c);
+    both_off(out, d)
 }
 
 // No place is present.
@@ -110,40 +131,61 @@ fn last_place(out: &mut [u8], at: usize) -> usize {
 
 // All of them.
 pub(crate) fn lying_cases(out: &mut [u8], at: usize) -> usize {
-    let a = numbers_off(out, at);
-    let b = numbers_far(out, a);
-    let c = none_present(out, b);
-    let d = strays(out, c);
-    let e = absent(out, d);
-    last_place(out, e)
+    let a = five_present(out, at);
+    let b = none_present(out, a);
+    let c = strays(out, b);
+    let d = absent(out, c);
+    last_place(out, d)
 }
 
-// A map that lies beside another fault: restore.
-fn restore_faults(out: &mut [u8], at: usize) -> usize {
+// A map that lies beside a wrong number of the shape: restore.
+fn restore_shapes(out: &mut [u8], at: usize) -> usize {
+    let c1 = [1u8, 2, 4, 8, 16, 32, 21, 42, 57, 30];
+    let mut bench = [161u8, 162, 163, 164];
+    let map = Map::of_parts(five(), 4, 4);
+    let a = restore_line(out, at, b"m+lie", [9, 3, 1], map, &c1, &mut bench);
+    let b = restore_line(out, a, b"k+lie", [3, 4, 1], map, &c1, &mut bench);
+    restore_line(out, b, b"b+lie", [3, 3, 0], map, &c1, &mut bench)
+}
+
+// Beside a stripe and a bench of another length.
+fn restore_lengths(out: &mut [u8], at: usize) -> usize {
     let c1 = [1u8, 2, 4, 8, 16, 32, 21, 42, 57, 30];
     let mut bench = [161u8, 162, 163, 164];
     let mut short = [161u8];
     let map = Map::of_parts(five(), 4, 4);
-    let a = restore_line(out, at, b"m+lie", [9, 3, 1], map, &c1, &mut bench);
-    let b = restore_line(out, a, b"k+lie", [3, 4, 1], map, &c1, &mut bench);
-    let c = restore_line(out, b, b"b+lie", [3, 3, 0], map, &c1, &mut bench);
-    let d = restore_line(out, c, b"length+lie", [3, 3, 1], map, &c1[0..9], &mut bench);
-    restore_line(out, d, b"bench+lie", [3, 3, 1], map, &c1, &mut short)
+    let next = restore_line(
+        out,
+        at,
+        b"length+lie",
+        [3, 3, 1],
+        map,
+        &c1[0..9],
+        &mut bench,
+    );
+    restore_line(out, next, b"bench+lie", [3, 3, 1], map, &c1, &mut short)
 }
 
-// And show.
-fn show_faults(out: &mut [u8], at: usize) -> usize {
+// Show: beside these.
+fn show_lengths(out: &mut [u8], at: usize) -> usize {
+    let c1 = [1u8, 2, 4, 8, 16, 32, 21, 42, 57, 30];
+    let bench = [161u8, 162, 163, 164];
+    let map = Map::of_parts(five(), 4, 4);
+    let a = show_line(out, at, b"m+lie", [9, 3, 1], map, &c1, &bench, 0);
+    let b = show_line(out, a, b"length+lie", [3, 3, 1], map, &c1[0..9], &bench, 0);
+    show_line(out, b, b"bench+lie", [3, 3, 1], map, &c1, &bench[0..1], 0)
+}
+
+// And beside a column and a place from k + 2 on.
+fn show_columns(out: &mut [u8], at: usize) -> usize {
     let c1 = [1u8, 2, 4, 8, 16, 32, 21, 42, 57, 30];
     let bench = [161u8, 162, 163, 164];
     let map = Map::of_parts(five(), 4, 4);
     let stray = Map::of_parts(six(), 5, 5);
-    let a = show_line(out, at, b"m+lie", [9, 3, 1], map, &c1, &bench, 0);
-    let b = show_line(out, a, b"length+lie", [3, 3, 1], map, &c1[0..9], &bench, 0);
-    let c = show_line(out, b, b"bench+lie", [3, 3, 1], map, &c1, &bench[0..1], 0);
-    let d = show_line(out, c, b"column+lie", [3, 3, 1], map, &c1, &bench, 9);
+    let next = show_line(out, at, b"column+lie", [3, 3, 1], map, &c1, &bench, 9);
     show_line(
         out,
-        d,
+        next,
         b"column+lie+stray",
         [3, 3, 1],
         stray,
@@ -153,8 +195,10 @@ fn show_faults(out: &mut [u8], at: usize) -> usize {
     )
 }
 
-// Both.
+// All of these.
 pub(crate) fn other_faults(out: &mut [u8], at: usize) -> usize {
-    let next = restore_faults(out, at);
-    show_faults(out, next)
+    let a = restore_shapes(out, at);
+    let b = restore_lengths(out, a);
+    let c = show_lengths(out, b);
+    show_columns(out, c)
 }

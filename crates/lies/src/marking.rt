@@ -3,12 +3,12 @@ use crate::asking::mark_line;
 use evenodd::Map;
 
 // Where the next line begins, and the map that is marked.
-struct Walk {
+struct Marking {
     next: usize,
     map: Map,
 }
 
-impl Walk {
+impl Marking {
     // A place is marked present.
     fn present(self, out: &mut [u8], name: &[u8], mark: &[u8], place: usize) -> Self {
         let before = self.map;
@@ -26,40 +26,70 @@ impl Walk {
     }
 }
 
-// Marks of places, some of them twice, and of the highest, so that the next is found.
-fn few_places(walk: Walk, out: &mut [u8]) -> Walk {
+// Places are marked present, one of them twice.
+fn two_places(walk: Marking, out: &mut [u8]) -> Marking {
     walk.present(out, b"walk", b" +3", 3)
         .present(out, b"walk", b" +3", 3)
         .present(out, b"walk", b" +1", 1)
+}
+
+// The highest is marked absent, twice, so that the next is found.
+fn one_place(walk: Marking, out: &mut [u8]) -> Marking {
+    walk.absent(out, b"walk", b" -3", 3)
         .absent(out, b"walk", b" -3", 3)
-        .absent(out, b"walk", b" -3", 3)
-        .absent(out, b"walk", b" -1", 1)
+}
+
+// So is the only one.
+fn no_place(walk: Marking, out: &mut [u8]) -> Marking {
+    walk.absent(out, b"walk", b" -1", 1)
         .absent(out, b"walk", b" -1", 1)
 }
 
-// The last place and the first.
-fn both_ends(walk: Walk, out: &mut [u8]) -> Walk {
+// The last place, and then the first.
+fn both_ends(walk: Marking, out: &mut [u8]) -> Marking {
     walk.present(out, b"walk", b" +128", 128)
         .present(out, b"walk", b" +0", 0)
-        .absent(out, b"walk", b" -128", 128)
+}
+
+// They are marked absent.
+fn neither_end(walk: Marking, out: &mut [u8]) -> Marking {
+    walk.absent(out, b"walk", b" -128", 128)
         .absent(out, b"walk", b" -0", 0)
 }
 
-// Places that the map has not.
-fn past_the_last(walk: Walk, out: &mut [u8]) -> Walk {
-    let most = 18446744073709551615;
+// A place that the map has not: the one after the last.
+fn past_the_last(walk: Marking, out: &mut [u8]) -> Marking {
     walk.present(out, b"walk", b" +129", 129)
         .absent(out, b"walk", b" -129", 129)
-        .present(out, b"walk", b" +max", most)
+}
+
+// And the largest number.
+fn largest(walk: Marking, out: &mut [u8]) -> Marking {
+    let most = 18446744073709551615;
+    walk.present(out, b"walk", b" +max", most)
         .absent(out, b"walk", b" -max", most)
 }
 
+// Places come and go.
+fn come_and_go(walk: Marking, out: &mut [u8]) -> Marking {
+    let a = two_places(walk, out);
+    let b = one_place(a, out);
+    no_place(b, out)
+}
+
+// The places at both ends, and past them.
+fn edges(walk: Marking, out: &mut [u8]) -> Marking {
+    let a = both_ends(walk, out);
+    let b = neither_end(a, out);
+    let c = past_the_last(b, out);
+    largest(c, out)
+}
+
 // One mark after another, from a new map on.
-pub(crate) fn walk(out: &mut [u8], at: usize) -> usize {
+pub(crate) fn one_by_one(out: &mut [u8], at: usize) -> usize {
     let map = Map::new();
-    let first = few_places(Walk { next: at, map }, out);
-    let second = both_ends(first, out);
-    past_the_last(second, out).next
+    let walk = come_and_go(Marking { next: at, map }, out);
+    edges(walk, out).next
 }
 
 // A new map, and places 0 to 127 marked present.
@@ -82,11 +112,11 @@ fn emptied(full: Map) -> Map {
 
 // Every place is marked present, then every place but the last absent, then that one.
 pub(crate) fn fill_and_empty(out: &mut [u8], at: usize) -> usize {
-    let full = Walk {
+    let full = Marking {
         next: at,
         map: filled(),
     }.present(out, b"fill", b"", 128);
-    let empty = Walk {
+    let empty = Marking {
         next: full.next,
         map: emptied(full.map),
     }.absent(out, b"empty", b"", 127);

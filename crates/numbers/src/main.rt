@@ -11,11 +11,17 @@ fn proved_cases(out: &mut [u8], at: usize) -> usize {
     cases::three_absent(out, d)
 }
 
+// Gaps.
+fn gap_cases(out: &mut [u8], at: usize) -> usize {
+    let next = others::gaps(out, at);
+    others::gaps_at_the_last(out, next)
+}
+
 // The other cases that are run and compared.
 fn other_cases(out: &mut [u8], at: usize) -> usize {
     let a = others::lengths(out, at);
     let b = others::places(out, a);
-    let c = others::gaps(out, b);
+    let c = gap_cases(out, b);
     let d = others::shapes_and_benches(out, c);
     let e = others::shapes_and_lengths(out, d);
     others::wrong_cells(out, e)

@@ -32,6 +32,13 @@ pub(crate) fn places(out: &mut [u8], at: usize) -> usize {
     show_line(out, first, b"place=5", [3, 3, 1], stray, &c1, &bench, 0)
 }
 
+// Three numbers.
+fn say_three(out: &mut [u8], at: usize, x: usize, y: usize, z: usize) -> usize {
+    let first = say_number(out, at, x);
+    let second = say_number(out, first, y);
+    say_number(out, second, z)
+}
+
 // What the map of these places has, and which of the columns with k data columns are absent.
 fn gaps_line(out: &mut [u8], at: usize, name: &[u8], k: usize, places: [u8; 129]) -> usize {
     let mut present = 0;
@@ -49,31 +56,31 @@ fn gaps_line(out: &mut [u8], at: usize, name: &[u8], k: usize, places: [u8; 129]
         &mut second,
     );
     let a = say_head(out, at, name, b" gaps");
-    let b = say_number(out, a, number as usize);
-    let c = say_number(out, b, present);
-    let d = say_number(out, c, highest);
-    let e = say_number(out, d, absent);
-    let f = say_number(out, e, first);
-    let g = say_number(out, f, second);
-    say_word(out, g, b"\n")
+    let b = say_three(out, a, number as usize, present, highest);
+    let c = say_three(out, b, absent, first, second);
+    say_word(out, c, b"\n")
 }
 
-// The gaps of C5's map, of none present, of all, of the last place alone, and of all but the last.
+// The gaps of C5's map, of none present and of all.
 pub(crate) fn gaps(out: &mut [u8], at: usize) -> usize {
     let mut c5 = [0u8; 129];
     c5[1] = 1;
     c5[3] = 1;
     c5[4] = 1;
-    let mut last = [0u8; 129];
-    last[128] = 1;
-    let mut but_last = [1u8; 129];
-    but_last[128] = 0;
     let a = gaps_line(out, at, b"gaps,C5", 3, c5);
     let b = gaps_line(out, a, b"gaps,none", 3, [0u8; 129]);
-    let c = gaps_line(out, b, b"gaps,all,k=127", 127, [1u8; 129]);
-    let d = gaps_line(out, c, b"gaps,128,k=126", 126, last);
-    let e = gaps_line(out, d, b"gaps,128,k=127", 127, last);
-    gaps_line(out, e, b"gaps,k=max", 18446744073709551615, but_last)
+    gaps_line(out, b, b"gaps,all,k=127", 127, [1u8; 129])
+}
+
+// Those of the last place alone, and of all but the last.
+pub(crate) fn gaps_at_the_last(out: &mut [u8], at: usize) -> usize {
+    let mut last = [0u8; 129];
+    last[128] = 1;
+    let mut others = [1u8; 129];
+    others[128] = 0;
+    let a = gaps_line(out, at, b"gaps,128,k=126", 126, last);
+    let b = gaps_line(out, a, b"gaps,128,k=127", 127, last);
+    gaps_line(out, b, b"gaps,k=max", 18446744073709551615, others)
 }
 
 // One wrong number of the shape, beside a bench of another length.

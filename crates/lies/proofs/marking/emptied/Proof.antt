@@ -1,0 +1,42 @@
+-- `lies::marking::emptied` ends: t is the place that comes next.
+use Prim.Native.Nat.{_≤_, _-_}
+use borrow.Author.Needs.{needs}
+use Rattle.lies.proofs.marking.emptied.Statement.{statement}
+use Rattle.lies.proofs.marking.emptied.Tie as tie
+
+abbrev Inv-loop : tie.InvT-loop
+Inv-loop map₀ t₀ map t = t ≤ 127
+
+abbrev μ-loop : tie.MeasureT-loop
+μ-loop map₀ t₀ map t = 127 - t
+
+loop-holds : tie.Need-loop-holds Inv-loop μ-loop
+loop-holds c = search needs
+
+mark-absent-requires : tie.Need-mark-absent-requires Inv-loop μ-loop
+mark-absent-requires c κs = tt
+
+add-t : tie.Need-add-t Inv-loop μ-loop
+add-t c = search needs
+
+loop-less : tie.Need-loop-less Inv-loop μ-loop
+loop-less c = search needs
+
+loop-again : tie.Need-loop-again Inv-loop μ-loop
+loop-again c = search needs
+
+returns : tie.Need-returns Inv-loop μ-loop
+returns c = search needs
+
+pub emptied-spec : {M : Type 1} → statement M
+emptied-spec =
+    tie.close
+    (tie.spec
+    Inv-loop
+    μ-loop
+    loop-holds
+    mark-absent-requires
+    add-t
+    loop-less
+    loop-again
+    returns)
