@@ -29,10 +29,11 @@ pub fn place_of(
         return Place::Refused(judged.refusal());
     };
     let columns = k + 2;
+    let absent = columns - map.present;
     if columns <= column {
         return Place::Refused(Refusal::NoSuchColumn);
     }
-    if 2 < columns - map.present() {
+    if 2 < absent {
         return Place::Refused(Refusal::Ambiguous);
     }
     if map.is_present(column) {

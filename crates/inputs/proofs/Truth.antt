@@ -2,6 +2,7 @@
 --   topped-none, topped-more       the top of no place, and of one place more
 --   none-topped, topped-highest    the top of all places tells the highest
 --   highest-one, highest-found     there is one highest place
+--   true-parts                     a map that is made of places and of what they say
 --   true-one, true-or-not, not-lying    the places determine a true map; each map is true or not, so that one that does not lie is true
 --   put-present                    one place is set
 --   counted-put, highest-here, highest-there, counted-cleared, highest-left    what that does to the two numbers
@@ -24,6 +25,7 @@ use Rattle.parity.specs.Presence.{present, absences}
 use Rattle.parity.proofs.Count.{last-pass, none-pass}
 use Rattle.inputs.specs.declared.maps.Map.{Map}
 use Rattle.inputs.specs.Absent.{PresentFrom, Stray}
+use Rattle.inputs.specs.Maps.{OfPlaces}
 use Rattle.inputs.specs.Truth.{Highest, Topped, TrueMap, HighestFrom, absentByCount}
 use Rattle.inputs.proofs.Absent.{past-all}
 use Rattle.inputs.proofs.Present.{same-count, both-counted, one-more}
@@ -108,6 +110,11 @@ highest-found places whole = by-cases (decLt 0 (count 129 (present places))) som
     )
 
 -- ---- true maps
+
+-- a map that is made of places and of what they say
+pub true-parts : (places : List Bool) (n h : ℕ) (r : Map) → length places ≡ 129 → n ≡ count 129 (present places) → Highest places h
+    → r ≡ record { places = places; present = n; highest = h } → OfPlaces places r
+true-parts places n h r whole counted named e = rw e (record { same = refl; truth = record { whole = whole; counted = counted; named = named } })
 
 pub true-one : (x y : Map) → TrueMap x → TrueMap y → x .places ≡ y .places → x ≡ y
 true-one x y p q e =

@@ -1,5 +1,5 @@
 -- Each promise determines its result: two results that meet it are equal. Each statement is a type, which proofs/Determined inhabits.
--- What `of_parts`, `present`, `highest`, `is_present` and `number` promise is an equation, so there is nothing to say of them.
+-- What `of_parts`, `is_present` and `number` promise is an equation, so there is nothing to say of them.
 --   JudgesOne, JudgesStripeOne, JudgesLentOne, JudgesGapsOne, NewOne, OfPlacesOne, OfBytesOne, AsBytesOne, TellsTruthOne, MarksOne, JudgesPlaceOne, FindsGapsOne,
 --   FindsStraysOne     the promise of each call
 --   ShapesPass     the shape's rules, one for each number, let exactly the shapes pass

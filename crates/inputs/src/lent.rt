@@ -68,7 +68,8 @@ pub fn judge_gaps(m: usize, k: usize, b: usize, map: Map, length: usize, held: u
         return Given::Refused(judged.refusal());
     };
     let columns = k + 2;
-    if 2 < columns - map.present() {
+    let absent = columns - map.present;
+    if 2 < absent {
         return Given::Refused(Refusal::Ambiguous);
     }
     let gaps = map.gaps(columns);

@@ -14,11 +14,12 @@ ghost use Rattle.inputs.specs.Absent.{Counts};
 ghost use Rattle.inputs.specs.Truth.{Highest, Topped, TrueMap, HighestFrom};
 ghost use Rattle.inputs.specs.Maps.{New, OfPlaces, OfBytes, AsBytes, TellsTruth, MarkedAs, Marks, JudgesPlace, FindsGaps, FindsStrays};
 
-// 129 stands for no highest place. A map made of parts may lie: its two numbers are not what its places say. Every call refuses such a map.
+// How many places are present, and the highest of them; 129 stands for none. Anybody may read and set these two numbers, so that a map may lie: they are not what
+// its places say. Every call refuses such a map.
 pub struct Map {
     places: [bool; 129],
-    present: usize,
-    highest: usize,
+    pub present: usize,
+    pub highest: usize,
 }
 
 // How many places are absent, and the two lowest of them; 129 stands for none.
@@ -149,19 +150,6 @@ impl Map {
         }
     }
 
-    // The true map of these places.
-    pub fn of_places(places: [bool; 129]) -> Self
-        ensures { λ r. ⌜ OfPlaces places r ⌝ }
-    {
-        let present = count_present(places);
-        let highest = find_highest(places);
-        Self {
-            places,
-            present,
-            highest,
-        }
-    }
-
     // A map of these places and of any two numbers: it lies where the places do not say them.
     pub fn of_parts(places: [bool; 129], present: usize, highest: usize) -> Self
         ensures { λ r. ⌜ r ≡ record { places = places; present = present; highest = highest } ⌝ }
@@ -171,6 +159,15 @@ impl Map {
             present,
             highest,
         }
+    }
+
+    // The true map of these places.
+    pub fn of_places(places: [bool; 129]) -> Self
+        ensures { λ r. ⌜ OfPlaces places r ⌝ }
+    {
+        let present = count_present(places);
+        let highest = find_highest(places);
+        Self::of_parts(places, present, highest)
     }
 
     // The true map that 129 bytes give: 1 is present, any other byte is absent.
@@ -194,20 +191,6 @@ impl Map {
             bytes[t] = places[t] as u8;
         }
         bytes
-    }
-
-    // How many places are present, as the map has it.
-    pub fn present(self) -> usize
-        ensures { λ r. ⌜ r ≡ self .present ⌝ }
-    {
-        self.present
-    }
-
-    // The highest present place, as the map has it; 129 stands for none.
-    pub fn highest(self) -> usize
-        ensures { λ r. ⌜ r ≡ self .highest ⌝ }
-    {
-        self.highest
     }
 
     // Whether the two numbers are what the places say.

@@ -28,8 +28,8 @@ fn say_whether(out: &mut [u8], at: usize, yes: bool) -> usize {
 
 // What a map keeps: its two numbers and its places.
 fn say_kept(out: &mut [u8], at: usize, map: Map) -> usize {
-    let first = say_far(out, at, map.present());
-    let second = say_far(out, first, map.highest());
+    let first = say_far(out, at, map.present);
+    let second = say_far(out, first, map.highest);
     say_map(out, second, map)
 }
 

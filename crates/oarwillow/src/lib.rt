@@ -201,8 +201,8 @@ pub extern "C" fn oarwillow_gaps(
 {
     let map = Map::of_bytes(places);
     let gaps = map.gaps(columns_of(k));
-    *present = map.present();
-    *highest = map.highest();
+    *present = map.present;
+    *highest = map.highest;
     *absent = gaps.count;
     *first = gaps.first;
     *second = gaps.second;

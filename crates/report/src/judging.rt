@@ -54,7 +54,8 @@ fn judge_formed(
     ensures { λ r. ⌜ JudgesFormed shape map (now (image .entry)) (now (stripe .entry)) (now (stripe .exit)) (now (bench .entry)) (now (bench .exit)) r ⌝ }
 {
     let columns = shape.k + 2;
-    if 2 < columns - map.present() {
+    let absent = columns - map.present;
+    if 2 < absent {
         return Outcome::Ambiguous(shape);
     }
     let column = (shape.m - 1) * shape.b;

@@ -28,23 +28,16 @@ columns-of-requires c κs = tt
 gaps-requires : tie.Need-gaps-requires
 gaps-requires c κs = tt
 
-present-requires : tie.Need-present-requires
-present-requires c κs = tt
-
-highest-requires : tie.Need-highest-requires
-highest-requires c κs = tt
-
 returns : tie.Need-returns
 returns c =
-    let found = c .before .before in
-    let columns = found .before in
+    let columns = c .before in
     record {
       map = _;
       marked = columns .before .of-bytes .ensures;
-      answer = found .gaps .result;
-      meets = below _ _ (columns .columns-of .result) _ (columns .columns-of .ensures) (found .gaps .ensures);
-      present = c .before .present .ensures;
-      highest = c .highest .ensures;
+      answer = c .gaps .result;
+      meets = below _ _ (columns .columns-of .result) _ (columns .columns-of .ensures) (c .gaps .ensures);
+      present = refl;
+      highest = refl;
       absent = refl;
       first = refl;
       second = refl;
@@ -58,6 +51,4 @@ oarwillow-gaps-spec =
     of-bytes-requires
     columns-of-requires
     gaps-requires
-    present-requires
-    highest-requires
     returns)

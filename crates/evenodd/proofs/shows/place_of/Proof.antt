@@ -21,9 +21,9 @@ good c = let at = c .before .before .before in lent-good _ _ _ _ _ _ (at .judge-
 passed : (c : tie.Else2) → let z = c .before .before .before in let a = z .before .before .before .before .before .before .args in
     NotRefused (a .m) (a .k) (a .b) (a .map) (now (a .stripe)) (now (a .bench)) (a .column) × (z .before .judged .given .0 .0 ≡ columnLength (a .m) (a .b))
 passed c =
-    let one = c .before .before in
-    let lent = good (one .before) in
-    (show-named _ _ _ _ _ _ _ lent (one .if1 .left) (omega (arith, c .before .present .ensures, c .if2 .left)), lent .numbers .column)
+    let one = c .before in
+    let lent = good (one .before .before) in
+    (show-named _ _ _ _ _ _ _ lent (one .if1 .left) (c .if2 .left), lent .numbers .column)
 
 judge-lent-requires : tie.Need-judge-lent-requires
 judge-lent-requires c κs = tt
@@ -46,25 +46,22 @@ returns c =
 add-columns : tie.Need-add-columns
 add-columns c = omega (arith, places-most (good c .numbers .shape))
 
+sub-absent : tie.Need-sub-absent
+sub-absent c = let lent = good (c .before) in omega (arith, absent-counted _ (lent .truth) _ (lent .clear) .0)
+
 returns-2 : tie.Need-returns-2
-returns-2 c = show-7 _ _ _ _ _ _ _ (good (c .before)) (c .if1 .taken)
-
-present-requires : tie.Need-present-requires
-present-requires c κs = tt
-
-sub-if2 : tie.Need-sub-if2
-sub-if2 c = let lent = good (c .before .before) in omega (arith, absent-counted _ (lent .truth) _ (lent .clear) .0, c .present .ensures)
+returns-2 c = show-7 _ _ _ _ _ _ _ (good (c .before .before)) (c .if1 .taken)
 
 returns-3 : tie.Need-returns-3
 returns-3 c =
-    let one = c .before .before in
-    show-4 _ _ _ _ _ _ _ (good (one .before)) (one .if1 .left) (omega (arith, c .before .present .ensures, c .if2 .taken))
+    let one = c .before in
+    show-4 _ _ _ _ _ _ _ (good (one .before .before)) (one .if1 .left) (c .if2 .taken)
 
 is-present-requires : tie.Need-is-present-requires
 is-present-requires c κs = tt
 
-mul-t19 : tie.Need-mul-t19
-mul-t19 c = let (p, e) = passed (c .before .before) in omega (arith, start-most p e)
+mul-t20 : tie.Need-mul-t20
+mul-t20 c = let (p, e) = passed (c .before .before) in omega (arith, start-most p e)
 
 returns-4 : tie.Need-returns-4
 returns-4 c = let (p, e) = passed (c .before .before) in show-stripe p e (sym (c .before .is-present .ensures) ∙ c .if3 .taken)
@@ -99,12 +96,11 @@ place-of-spec =
     refusal-requires
     returns
     add-columns
+    sub-absent
     returns-2
-    present-requires
-    sub-if2
     returns-3
     is-present-requires
-    mul-t19
+    mul-t20
     returns-4
     gaps-requires
     returns-5

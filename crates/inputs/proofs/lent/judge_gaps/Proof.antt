@@ -43,16 +43,13 @@ returns c =
 add-columns : tie.Need-add-columns
 add-columns c = omega (arith, places-most (good c .numbers .shape))
 
-present-requires : tie.Need-present-requires
-present-requires c κs = tt
-
 -- how many columns are absent, by the count
 absent : (c : tie.After-known-told) → let a = c .before .before .before .before .args in
     (a .map .present ≤ a .k + 2) × (absences (a .k) (a .map .places) ≡ absentByCount (a .k) (a .map))
 absent c = absent-counted _ (good c .truth) _ (good c .clear)
 
-sub-if1 : tie.Need-sub-if1
-sub-if1 c = omega (arith, absent (c .before) .0, c .present .ensures)
+sub-absent : tie.Need-sub-absent
+sub-absent c = omega (arith, absent (c .before) .0)
 
 returns-2 : tie.Need-returns-2
 returns-2 c =
@@ -61,7 +58,7 @@ returns-2 c =
     let e = absent (p .before) .1 in
     record {
       told = gives-after (lentRules (a .m) (a .k) (a .b) (a .map) (a .length) (a .held)) (tooManyAbsent (a .k) (a .map) ∷ []) _
-          (good (p .before) .tests) (gives-first (omega (arith, p .present .ensures, c .if1 .taken)));
+          (good (p .before) .tests) (gives-first (omega (arith, c .if1 .taken)));
       good = tt;
     }
 
@@ -75,7 +72,7 @@ returns-3 c =
     let e = absent (p .before) .1 in
     record {
       told = gives-after (lentRules (a .m) (a .k) (a .b) (a .map) (a .length) (a .held)) (tooManyAbsent (a .k) (a .map) ∷ []) _
-          (good (p .before) .tests) (gives-next (λ h. omega (arith, p .present .ensures, c .before .if1 .left)) refl);
+          (good (p .before) .tests) (gives-next (λ h. omega (arith, c .before .if1 .left)) refl);
       good = (good (p .before) .numbers .column, c .gaps .ensures .some (places-most (good (p .before) .numbers .shape)));
     }
 
@@ -89,8 +86,7 @@ judge-gaps-spec =
     refusal-requires
     returns
     add-columns
-    present-requires
-    sub-if1
+    sub-absent
     returns-2
     gaps-requires
     returns-3)

@@ -13,16 +13,13 @@ use Rattle.report.proofs.judging.judge_formed.Tie as tie
 add-columns : tie.Need-add-columns
 add-columns c = omega (arith, places-most (formed-good (c .before .before .before .before .pre) .shape))
 
-present-requires : tie.Need-present-requires
-present-requires c κs = tt
-
-sub-if1 : tie.Need-sub-if1
-sub-if1 c = omega (arith, formed-absent (c .before .before .before .before .before .pre) .0, c .present .ensures)
+sub-absent : tie.Need-sub-absent
+sub-absent c = omega (arith, formed-absent (c .before .before .before .before .before .pre) .0)
 
 returns : tie.Need-returns
 unfolding stripeLength benchLength columnLength
 returns c =
-    formed-ambiguous (omega (arith, formed-absent (c .before .before .before .before .before .before .pre) .1, c .before .present .ensures))
+    formed-ambiguous (omega (arith, formed-absent (c .before .before .before .before .before .before .pre) .1))
 
 sub-column : tie.Need-sub-column
 sub-column c =
@@ -46,12 +43,12 @@ mul-double c =
 returns-2 : tie.Need-returns-2
 unfolding stripeLength benchLength columnLength
 returns-2 c =
-    formed-stripe (omega (arith, formed-absent (c .before .before .before .before .before .before .before .before .before .pre) .1, c .before .before .before .before .present .ensures)) (c .if2 .taken)
+    formed-stripe (omega (arith, formed-absent (c .before .before .before .before .before .before .before .before .before .pre) .1)) (c .if2 .taken)
 
 returns-3 : tie.Need-returns-3
 unfolding stripeLength benchLength columnLength
 returns-3 c =
-    formed-bench (omega (arith, formed-absent (c .before .before .before .before .before .before .before .before .before .before .pre) .1, c .before .before .before .before .before .present .ensures)) (omega arith) (omega arith)
+    formed-bench (omega (arith, formed-absent (c .before .before .before .before .before .before .before .before .before .before .pre) .1)) (omega arith) (omega arith)
 
 sub-judge-parts : tie.Need-sub-judge-parts
 sub-judge-parts c = search needs
@@ -76,7 +73,7 @@ unfolding stripeLength benchLength columnLength
 judge-parts-requires c κs =
     let a = c .before .before .before .before .before .before .before .before .before .before .before .before .args in
     let column = (a .shape .m - 1) * a .shape .b in
-    (c .before .before .before .before .before .before .before .before .before .before .before .before .pre, omega (arith, formed-absent (c .before .before .before .before .before .before .before .before .before .before .before .before .pre) .1, c .before .before .before .before .before .before .before .present .ensures), part-size ((a .shape .k + 2) * column) (now (a .stripe)) (omega arith), part-size (2 * column) (now (a .bench)) (omega arith))
+    (c .before .before .before .before .before .before .before .before .before .before .before .before .pre, omega (arith, formed-absent (c .before .before .before .before .before .before .before .before .before .before .before .before .pre) .1), part-size ((a .shape .k + 2) * column) (now (a .stripe)) (omega arith), part-size (2 * column) (now (a .bench)) (omega arith))
 
 same-length : tie.Need-same-length
 same-length c = search needs
@@ -89,15 +86,14 @@ unfolding stripeLength benchLength columnLength
 returns-4 c =
     let a = c .before .before .before .before .before .before .before .before .before .before .before .before .before .before .before .before .before .args in
     let column = (a .shape .m - 1) * a .shape .b in
-    formed-lent (omega (arith, formed-absent (c .before .before .before .before .before .before .before .before .before .before .before .before .before .before .before .before .before .pre) .1, c .before .before .before .before .before .before .before .before .before .before .before .before .present .ensures)) (omega arith) (omega arith) _ _ ((a .shape .k + 2) * column) (2 * column) refl refl _ (c .before .before .before .before .judge-parts .ensures)
+    formed-lent (omega (arith, formed-absent (c .before .before .before .before .before .before .before .before .before .before .before .before .before .before .before .before .before .pre) .1)) (omega arith) (omega arith) _ _ ((a .shape .k + 2) * column) (2 * column) refl refl _ (c .before .before .before .before .judge-parts .ensures)
 
 pub judge-formed-spec : {M : Type 1} → statement M
 judge-formed-spec =
     tie.close
     (tie.spec
     add-columns
-    present-requires
-    sub-if1
+    sub-absent
     returns
     sub-column
     mul-column
