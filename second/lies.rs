@@ -7,43 +7,23 @@ use std::ops::Range;
 
 const MAX: usize = usize::MAX;
 
-/// A name, the places that are present, and the two numbers: how many are present, and the highest.
-pub const CASES: [(&str, Range<usize>, usize, usize); 30] = [
-    ("five", 0..5, 5, 4),
-    ("count=4", 0..5, 4, 4),
-    ("count=6", 0..5, 6, 4),
-    ("highest=3", 0..5, 5, 3),
-    ("highest=5", 0..5, 5, 5),
-    ("highest=129", 0..5, 5, 129),
-    ("count=261", 0..5, 261, 4),
-    ("highest=260", 0..5, 5, 260),
-    ("count=max", 0..5, MAX, 4),
-    ("highest=max", 0..5, 5, MAX),
-    ("both=max", 0..5, MAX, MAX),
-    ("both=0", 0..5, 0, 0),
-    ("swapped", 0..5, 4, 5),
-    ("none", 0..0, 0, 129),
-    ("none,highest=0", 0..0, 0, 0),
-    ("none,highest=128", 0..0, 0, 128),
-    ("none,highest=130", 0..0, 0, 130),
-    ("none,count=1", 0..0, 1, 129),
-    ("stray", 0..6, 6, 5),
-    ("stray,highest=4", 0..6, 6, 4),
-    ("stray,count=5", 0..6, 5, 5),
-    ("two", 2..5, 3, 4),
-    ("two,count=2", 2..5, 2, 4),
-    ("three", 3..5, 2, 4),
-    ("three,count=3", 3..5, 3, 4),
-    ("all", 0..129, 129, 128),
-    ("all,highest=129", 0..129, 129, 129),
-    ("all,count=128", 0..129, 128, 128),
-    ("last", 128..129, 1, 128),
-    ("last,highest=127", 128..129, 1, 127),
+/// A name, the places that are present, and four pairs of numbers: how many are present, and the highest.
+pub const GROUPS: [(&str, Range<usize>, [(usize, usize); 4]); 11] = [
+    ("five", 0..5, [(5, 4), (4, 4), (6, 4), (4, 5)]),
+    ("five", 0..5, [(5, 3), (5, 5), (5, 129), (0, 0)]),
+    ("five", 0..5, [(261, 4), (5, 260), (5, 0), (0, 129)]),
+    ("five", 0..5, [(MAX, 4), (5, MAX), (MAX, MAX), (4, 3)]),
+    ("none", 0..0, [(0, 129), (0, 0), (0, 128), (1, 129)]),
+    ("none", 0..0, [(0, 130), (256, 129), (0, MAX), (MAX, MAX)]),
+    ("stray", 0..6, [(6, 5), (6, 4), (5, 5), (5, 4)]),
+    ("two-absent", 2..5, [(3, 4), (2, 4), (5, 4), (3, 2)]),
+    ("three-absent", 3..5, [(2, 4), (3, 4), (5, 4), (2, 129)]),
+    ("all", 0..129, [(129, 128), (129, 129), (128, 128), (130, 128)]),
+    ("last", 128..129, [(1, 128), (1, 127), (1, 129), (2, 128)]),
 ];
 
-/// Places marked present, with a plus, or absent, with a minus.
-pub const WALK: [&str; 15] =
-    ["+3", "+3", "+1", "-3", "-3", "-1", "-1", "+128", "+0", "-128", "-0", "+129", "-129", "+max", "-max"];
+/// Places that are marked present one after another, and then absent in the same order; each group goes on from the map of the one before.
+pub const WALK: [[usize; 4]; 3] = [[3, 1, 1, 3], [0, 128, 127, 0], [5, 129, MAX, 128]];
 
 pub fn map_of(present: Range<usize>, count: usize, highest: usize) -> Map {
     let mut places = [false; PLACES];
@@ -88,7 +68,9 @@ fn questions(map: &Map) -> String {
     format!("{present} {stray} {absent} {first} {second} {}", whole(&Map::from_bytes(map.bytes())))
 }
 
-fn case(name: &str, map: Map) -> [String; 7] {
+/// The lines of one map, which is named by its places and its two numbers.
+fn case(places: &str, map: Map) -> [String; 7] {
+    let name = &format!("{places} {} {}", told(map.present), told(map.highest));
     [
         format!("{name} true {}", map.is_true() as u8),
         Call::on_c1().restore(name, map),
@@ -112,51 +94,31 @@ fn with_faults() -> Vec<String> {
         shaped(3, 4, 1).restore("k+lie", lie),
         shaped(3, 3, 0).restore("b+lie", lie),
         cut().restore("length+lie", lie),
-        small().restore("bench+lie", lie),
         shaped(9, 3, 1).show("m+lie", lie),
-        cut().show("length+lie", lie),
         small().show("bench+lie", lie),
         beyond().show("column+lie", lie),
         beyond().show("column+lie+stray", stray),
     ]
 }
 
-/// A place to mark and its state.
-fn step_of(text: &str) -> (usize, bool) {
-    let (sign, place) = text.split_at(1);
-    let place = if place == "max" { MAX } else { place.parse().expect("the step is written rightly") };
-    (place, sign == "+")
-}
-
 /// Each mark is of the map that the one before handed back.
 fn walk() -> Vec<String> {
     let mut map = Map::new();
     let mut lines = Vec::new();
-    for text in WALK {
-        let (place, present) = step_of(text);
-        lines.push(format!("walk {text} {}", marked(map, place, present)));
-        map = mark(map, place, present).map;
+    for places in WALK {
+        for (word, present) in [("present", true), ("absent", false)] {
+            for place in places {
+                lines.push(format!("{word} {} {}", told(place), marked(map, place, present)));
+                map = mark(map, place, present).map;
+            }
+        }
     }
     lines
 }
 
-/// Marks in a row. The number is that of the first that was refused, or 0.
-fn mark_each(map: Map, places: Range<usize>, present: bool) -> Marked {
-    places.fold(Marked { number: FINE, map }, |before, place| {
-        let done = mark(before.map, place, present);
-        Marked { number: if before.number == FINE { done.number } else { before.number }, map: done.map }
-    })
-}
-
-fn fill_and_empty() -> [String; 3] {
-    let full = mark_each(Map::new(), 0..PLACES, true);
-    let one = mark_each(full.map, 0..PLACES - 1, false);
-    let none = mark_each(one.map, PLACES - 1..PLACES, false);
-    let line = |name: &str, done: &Marked| format!("{name} {} {}", done.number, whole(&done.map));
-    [line("fill", &full), line("empty", &one), line("empty -128", &none)]
-}
-
 pub fn lines() -> Vec<String> {
-    let cases = CASES.into_iter().flat_map(|(name, places, count, highest)| case(name, map_of(places, count, highest)));
-    cases.chain(with_faults()).chain(walk()).chain(fill_and_empty()).collect()
+    let maps = GROUPS.into_iter().flat_map(|(name, places, pairs)| {
+        pairs.into_iter().flat_map(move |(count, highest)| case(name, map_of(places.clone(), count, highest)))
+    });
+    maps.chain(with_faults()).chain(walk()).collect()
 }

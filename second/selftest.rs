@@ -459,23 +459,29 @@ fn line_of<'a>(lines: &'a [String], start: &str) -> &'a str {
 /// The lines of `lies`: the true cases by hand, the false ones by the true case of the same places.
 fn lines_of_lies(test: &mut Test) {
     let lines = lies::lines();
-    test.same(|| "lines".to_string(), lines.len(), 7 * 30 + 10 + 15 + 3);
+    test.same(|| "lines".to_string(), lines.len(), 7 * 44 + 8 + 24);
     let refused = |number: u8| (format!("{number} 0 129 129 a1a2a3a4"), format!("{number} 0 0 0"));
     let answered = |restored: &str, shown: &str| (restored.to_string(), shown.to_string());
     let sound = [
-        ("five", answered("0 0 129 129 a1a2a3a4", "0 0 0 2")),
-        ("none", refused(4)),
-        ("stray", refused(9)),
-        ("two", answered("0 2 0 1 01020408", "0 1 0 2")),
-        ("three", refused(4)),
-        ("all", refused(9)),
-        ("last", refused(9)),
+        ("five 5 4", answered("0 0 129 129 a1a2a3a4", "0 0 0 2")),
+        ("none 0 129", refused(4)),
+        ("stray 6 5", refused(9)),
+        ("two-absent 3 4", answered("0 2 0 1 01020408", "0 1 0 2")),
+        ("three-absent 2 4", refused(4)),
+        ("all 129 128", refused(9)),
+        ("last 1 128", refused(9)),
     ];
-    for (name, places, count, highest) in lies::CASES {
+    let maps = || {
+        lies::GROUPS.into_iter().flat_map(|(kind, places, pairs)| {
+            pairs.into_iter().map(move |(count, highest)| (kind, places.clone(), count, highest))
+        })
+    };
+    for (kind, places, count, highest) in maps() {
+        let short = |number: usize| if number > 9_999 { "far".to_string() } else { number.to_string() };
+        let name = &format!("{kind} {} {}", short(count), short(highest))[..];
         let about = || format!("case {name}");
         let said = |word: &str| line_of(&lines, &format!("{name} {word}"));
         let map = lies::map_of(places.clone(), count, highest);
-        let short = |number: usize| if number > 9_999 { "far".to_string() } else { number.to_string() };
         let unchanged = format!("{} {} {map}", short(count), short(highest));
         let is_sound = by_the_places(&map.places) == (count, highest);
         test.same(about, sound.iter().any(|(other, _)| *other == name), is_sound);
@@ -491,7 +497,7 @@ fn lines_of_lies(test: &mut Test) {
             let changed = format!("0 {count} {highest} {}", Map::counted(after));
             test.same(about, said(word), &if is_sound { changed } else { format!("17 {unchanged}") });
         }
-        let sister = lies::CASES.into_iter().find(|other| other.1 == places).expect("its own places").0;
+        let sister = sound.iter().find(|(other, _)| other.starts_with(&format!("{kind} "))).expect("a true one").0;
         test.same(about, said("questions"), line_of(&lines, &format!("{sister} questions")));
     }
     let faults = [("m", 1), ("k", 12), ("b", 13), ("length", 2), ("bench", 3), ("column", 17), ("stray", 17)];
@@ -500,30 +506,29 @@ fn lines_of_lies(test: &mut Test) {
         let bench = if fault == "bench" { "a1" } else { "a1a2a3a4" };
         let (restored, shown) = (format!("{number} 0 129 129 {bench}"), format!("{number} 0 0 0"));
         let wanted = match fault {
-            "k" | "b" => (&restored[..], "no such line"),
-            "m" | "length" | "bench" => (&restored[..], &shown[..]),
+            "k" | "b" | "length" => (&restored[..], "no such line"),
+            "m" => (&restored[..], &shown[..]),
             _ => ("no such line", &shown[..]),
         };
         let got = (line_of(&lines, &format!("{name} restore")), line_of(&lines, &format!("{name} show")));
         test.same(|| name.clone(), got, wanted);
     }
     let map = |present: &[usize]| Map::counted(std::array::from_fn(|place| present.contains(&place))).to_string();
-    let steps: [(u8, usize, usize, &[usize]); 15] = [
-        (0, 1, 3, &[3]), (0, 1, 3, &[3]), (0, 2, 3, &[1, 3]), (0, 1, 1, &[1]), (0, 1, 1, &[1]),
-        (0, 0, 129, &[]), (0, 0, 129, &[]),
-        (0, 1, 128, &[128]), (0, 2, 128, &[0, 128]), (0, 1, 0, &[0]), (0, 0, 129, &[]),
-        (7, 0, 129, &[]), (7, 0, 129, &[]), (7, 0, 129, &[]), (7, 0, 129, &[]),
+    let steps: [(&str, u8, usize, usize, &[usize]); 24] = [
+        ("present 3", 0, 1, 3, &[3]), ("present 1", 0, 2, 3, &[1, 3]), ("present 1", 0, 2, 3, &[1, 3]),
+        ("present 3", 0, 2, 3, &[1, 3]), ("absent 3", 0, 1, 1, &[1]), ("absent 1", 0, 0, 129, &[]),
+        ("absent 1", 0, 0, 129, &[]), ("absent 3", 0, 0, 129, &[]),
+        ("present 0", 0, 1, 0, &[0]), ("present 128", 0, 2, 128, &[0, 128]), ("present 127", 0, 3, 128, &[0, 127, 128]),
+        ("present 0", 0, 3, 128, &[0, 127, 128]), ("absent 0", 0, 2, 128, &[127, 128]), ("absent 128", 0, 1, 127, &[127]),
+        ("absent 127", 0, 0, 129, &[]), ("absent 0", 0, 0, 129, &[]),
+        ("present 5", 0, 1, 5, &[5]), ("present 129", 7, 1, 5, &[5]), ("present far", 7, 1, 5, &[5]),
+        ("present 128", 0, 2, 128, &[5, 128]), ("absent 5", 0, 1, 128, &[128]), ("absent 129", 7, 1, 128, &[128]),
+        ("absent far", 7, 1, 128, &[128]), ("absent 128", 0, 0, 129, &[]),
     ];
-    for (n, (number, count, highest, present)) in steps.into_iter().enumerate() {
-        let wanted = format!("walk {} {number} {count} {highest} {}", lies::WALK[n], map(present));
-        test.same(|| format!("walk {n}"), &lines[7 * 30 + 10 + n], &wanted);
+    for (n, (mark, number, count, highest, present)) in steps.into_iter().enumerate() {
+        let wanted = format!("{mark} {number} {count} {highest} {}", map(present));
+        test.same(|| format!("walk {n}"), &lines[7 * 44 + 8 + n], &wanted);
     }
-    let ends = [
-        format!("fill 0 129 128 {}", "1".repeat(129)),
-        format!("empty 0 1 128 {}1", "0".repeat(128)),
-        format!("empty -128 0 0 129 {}", "0".repeat(129)),
-    ];
-    test.same(|| "fill and empty".to_string(), &lines[7 * 30 + 10 + 15..], &ends[..]);
 }
 
 fn maps(test: &mut Test) {

@@ -5,12 +5,11 @@ mod cases;
 mod marking;
 
 fn main() {
-    let mut out = [0u8; 32768];
-    let first = cases::lying_cases(&mut out, 0);
+    let mut out = [0u8; 65536];
+    let first = cases::all_maps(&mut out, 0);
     let second = cases::other_faults(&mut out, first);
-    let third = marking::one_by_one(&mut out, second);
-    let end = marking::fill_and_empty(&mut out, third);
-    if end <= 32768 {
+    let end = marking::one_by_one(&mut out, second);
+    if end <= 65536 {
         io::write_all(1, &out[0..end]);
     }
 }

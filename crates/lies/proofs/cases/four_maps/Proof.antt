@@ -1,0 +1,68 @@
+-- `lies::cases::four_maps` ends, and `out` keeps its length.
+use mathlib.Core.Path.{_≡_}
+use Prim.Native.Nat.{_≤_, _-_}
+use lib.ListN.{length}
+use borrow.Author.Needs.{needs}
+use Rattle.lies.proofs.cases.four_maps.Statement.{statement}
+use Rattle.lies.proofs.cases.four_maps.Tie as tie
+
+abbrev Inv-loop : tie.InvT-loop
+Inv-loop out₀ at name places present highest next₀ i₀ out next i = (i ≤ 4) × (length out ≡ length out₀)
+
+abbrev μ-loop : tie.MeasureT-loop
+μ-loop out₀ at name places present highest next₀ i₀ out next i = 4 - i
+
+loop-holds : tie.Need-loop-holds Inv-loop μ-loop
+loop-holds c = search needs
+
+mul-of-parts : tie.Need-mul-of-parts Inv-loop μ-loop
+mul-of-parts c = search needs
+
+array-read-of-parts : tie.Need-array-read-of-parts Inv-loop μ-loop
+array-read-of-parts c = search needs
+
+mul-of-parts-2 : tie.Need-mul-of-parts-2 Inv-loop μ-loop
+mul-of-parts-2 c = search needs
+
+array-read-of-parts-2 : tie.Need-array-read-of-parts-2 Inv-loop μ-loop
+array-read-of-parts-2 c = search needs
+
+of-parts-requires : tie.Need-of-parts-requires Inv-loop μ-loop
+of-parts-requires c κs = search needs
+
+map-lines-requires : tie.Need-map-lines-requires Inv-loop μ-loop
+map-lines-requires c κs = search needs
+
+add-i : tie.Need-add-i Inv-loop μ-loop
+add-i c = search needs
+
+loop-less : tie.Need-loop-less Inv-loop μ-loop
+loop-less c = search needs
+
+loop-again : tie.Need-loop-again Inv-loop μ-loop
+loop-again c = search needs
+
+same-length : tie.Need-same-length Inv-loop μ-loop
+same-length c = search needs
+
+returns : tie.Need-returns Inv-loop μ-loop
+returns c = search needs
+
+pub four-maps-spec : {M : Type 1} → statement M
+four-maps-spec =
+    tie.close
+    (tie.spec
+    Inv-loop
+    μ-loop
+    loop-holds
+    mul-of-parts
+    array-read-of-parts
+    mul-of-parts-2
+    array-read-of-parts-2
+    of-parts-requires
+    map-lines-requires
+    add-i
+    loop-less
+    loop-again
+    same-length
+    returns)
