@@ -1,6 +1,6 @@
 -- The proofs of the statements in specs/Determined: an image says its numbers and its states, so that one shape, one map and one content of each
 -- present column fit it; and a list of rules gives one verdict.
-use mathlib.Core.Path.{_≡_, refl, sym, ap, ap₂, _∙_}
+use mathlib.Core.Path.{_≡_, refl, sym, ap₂, _∙_}
 use mathlib.Core.Bool.{Bool, true, false}
 use mathlib.Core.List.{List, [], _∷_}
 use Prim.Native.Nat.{ℕ, _+_, _-_, _<_}

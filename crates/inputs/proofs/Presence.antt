@@ -7,10 +7,10 @@
 --   marks-passed, marks-refused   what a mark leaves, by what is judged of the place
 --   marked-already, marked-put, marked-cleared    a place that is in its state already, that comes to be present, and that comes to be absent
 use mathlib.Core.Path.{_≡_, refl, sym, ap, _∙_}
-use mathlib.Core.Bool.{Bool, true, false, cond}
+use mathlib.Core.Bool.{Bool, true, false}
 use mathlib.Core.List.{List}
 use mathlib.Core.Logic.{by-cases}
-use Prim.Native.Nat.{ℕ, zero, suc, _+_, _-_, _≤_, _<_}
+use Prim.Native.Nat.{ℕ, zero, suc, _+_, _-_, _<_}
 use native.Mathlib.Decide.{ℕ-discrete}
 use native.Mathlib.Omega.{arith}
 use lib.ListN.{length, set, replicate, length-map, length-set}
@@ -18,7 +18,6 @@ use lib.Seq.{ext-getD}
 use mir.Val.{Val}
 use denote.Laws.{Is}
 use borrow.Author.Tests.{eq-eqb, ne-eqb}
-use Rattle.parity.specs.Sum.{count}
 use Rattle.parity.specs.Presence.{present}
 use Rattle.parity.proofs.Count.{all-fail}
 pub use Rattle.inputs.proofs.Absent.{absences-below, below-most}

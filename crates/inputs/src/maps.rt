@@ -14,8 +14,8 @@ ghost use Rattle.inputs.specs.Absent.{Counts};
 ghost use Rattle.inputs.specs.Truth.{Highest, Topped, TrueMap, HighestFrom};
 ghost use Rattle.inputs.specs.Maps.{New, OfPlaces, OfBytes, AsBytes, TellsTruth, MarkedAs, Marks, JudgesPlace, FindsGaps, FindsStrays};
 
-// How many places are present, and the highest of them; 129 stands for none. Anybody may read and set these two numbers, so that a map may lie: they are not what
-// its places say. Every call refuses such a map.
+// `present` is how many places are present, and `highest` the highest of them; 129 stands for none. Anybody may read and set these two numbers, so a map may
+// lie: they are then not what its places say. Every call refuses such a map.
 pub struct Map {
     places: [bool; 129],
     pub present: usize,
@@ -114,7 +114,7 @@ fn find_top(places: [bool; 129]) -> u8
     top
 }
 
-// The highest present place.
+// The highest present place; 129 where none is present.
 fn find_highest(places: [bool; 129]) -> usize
     ensures { λ r. ⌜ Highest places r ⌝ }
 {
@@ -125,7 +125,7 @@ fn find_highest(places: [bool; 129]) -> usize
     top as usize - 1
 }
 
-// The highest present place, where it was `highest`, and a place is marked present.
+// The highest present place after a place is marked present, where it was `highest` before.
 fn higher(highest: usize, place: usize) -> usize
     ensures { λ r. ⌜ ((places : List Bool) → Highest places highest → place < length places → place < 129 → Highest (set places place true) r) ⌝ }
 {
@@ -247,7 +247,7 @@ impl Map {
         self
     }
 
-    // The map with a place marked present; one that lies, or a place of 129 or more, leaves it as it is.
+    // The map with a place marked present. A map that lies stays as it is, and so does any map where the place is 129 or more.
     pub fn mark_present(self, place: usize) -> Self
         ensures { λ r. ⌜ Marks true self place r ⌝ }
     {
@@ -257,7 +257,7 @@ impl Map {
         }
     }
 
-    // The map with a place marked absent; one that lies, or a place of 129 or more, leaves it as it is.
+    // The map with a place marked absent. A map that lies stays as it is, and so does any map where the place is 129 or more.
     pub fn mark_absent(self, place: usize) -> Self
         ensures { λ r. ⌜ Marks false self place r ⌝ }
     {
@@ -301,7 +301,7 @@ impl Map {
         find_gaps(places, n)
     }
 
-    // Whether a place from n on is present.
+    // Whether a place from n on is present: the true map of these places tells it.
     pub fn strays(self, n: usize) -> bool
         ensures { λ r. ⌜ FindsStrays self n r ⌝ }
     {

@@ -1,5 +1,4 @@
 -- `inputs::maps::larger` meets its contract, by its test.
-use mathlib.Core.Path.{sym}
 use borrow.Author.Tests.{lt-ltb, le-ltb}
 use Rattle.inputs.proofs.maps.larger.Statement.{statement}
 use Rattle.inputs.proofs.maps.larger.Tie as tie

@@ -1,5 +1,5 @@
 -- `inputs::maps::Map::is_true` meets its contract: both numbers are held against what the places say.
-use mathlib.Core.Path.{_≡_, sym, _∙_}
+use mathlib.Core.Path.{sym, _∙_}
 use mathlib.Core.Bool.{true≢false}
 use borrow.Author.Tests.{eqb-true, eq-eqb}
 use Rattle.inputs.proofs.Presence.{whole}

@@ -1,7 +1,6 @@
 -- `inputs::maps::Map::reaches` meets its contract: 129 names no place.
 use mathlib.Core.Path.{sym}
 use mathlib.Core.Bool.{true≢false}
-use native.Mathlib.Omega.{arith}
 use borrow.Author.Tests.{leb-true, le-leb}
 use Rattle.inputs.proofs.maps.Map.reaches.Statement.{statement}
 use Rattle.inputs.proofs.maps.Map.reaches.Tie as tie

@@ -1,5 +1,4 @@
 -- `inputs::maps::Map::with` meets its contract: where the place was absent, one more is present, and it may come to be the highest.
-use mathlib.Core.Path.{refl}
 use native.Mathlib.Omega.{arith}
 use borrow.Author.Needs.{needs}
 use Rattle.parity.specs.Presence.{present}

@@ -1,5 +1,4 @@
 -- `inputs::maps::Map::without` meets its contract: where the place was present, one less is, and where it was the highest, the next is found.
-use mathlib.Core.Path.{_∙_}
 use native.Mathlib.Omega.{arith}
 use borrow.Author.Needs.{needs}
 use borrow.Author.Tests.{not-true, not-false}
