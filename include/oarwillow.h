@@ -11,10 +11,10 @@
  *    4  three or more columns absent           9  map has a place at or above k + 2 present
  *    5  no valid stripe agrees with           12  k is 0 or above m
  *       every present column                  13  b is 0 or above 4,096
- * 17, for a map whose two numbers are not what its places say, is never given here: in C a map is its places alone, of which the count of
- * present places and the highest one are made on the way in.
  * The first that applies, in the order given at each call. A refused call changes no byte of a stripe or bench. The numbers behind
  * pointers, and the places that oarwillow_read gives, are results: they are written on every call, also on a refused one.
+ * 17, for a map whose two numbers are not what its places say, is never given here: in C a map is its places alone, and the count of
+ * the present ones and the highest of them are made on the way in.
  *
  * What C must see to: each pointer is valid for the length that goes with it and not null, also where the length is 0; numbers behind
  * pointers are aligned; no two of a call's pointers overlap, save that buffers that are only read may be the same.

@@ -43,6 +43,8 @@ impl Call {
         let answer = Request::Restore(self.shape, map, self.stripe, self.bench).answer();
         format!("{name} restore {answer}")
     }
+    /// How many bytes of the column are handed out.
+    fn part(self, map: Map) -> usize { show(self.shape, &map, &self.stripe, &self.bench, self.column).length }
     fn show(self, name: &str, map: Map) -> String {
         let answer = Request::Show(self.shape, map, self.stripe, self.bench, self.column).answer();
         format!("{name} show {answer}")
@@ -69,12 +71,13 @@ fn questions(map: &Map) -> String {
 }
 
 /// The lines of one map, which is named by its places and its two numbers.
-fn case(places: &str, map: Map) -> [String; 7] {
+fn case(places: &str, map: Map) -> [String; 8] {
     let name = &format!("{places} {} {}", told(map.present), told(map.highest));
     [
         format!("{name} true {}", map.is_true() as u8),
         Call::on_c1().restore(name, map),
         Call::on_c1().show(name, map),
+        format!("{name} part {}", Call::on_c1().part(map)),
         format!("{name} present-0 {}", marked(map, 0, true)),
         format!("{name} absent-4 {}", marked(map, 4, false)),
         format!("{name} present-129 {}", marked(map, 129, true)),

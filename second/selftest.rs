@@ -459,7 +459,7 @@ fn line_of<'a>(lines: &'a [String], start: &str) -> &'a str {
 /// The lines of `lies`: the true cases by hand, the false ones by the true case of the same places.
 fn lines_of_lies(test: &mut Test) {
     let lines = lies::lines();
-    test.same(|| "lines".to_string(), lines.len(), 7 * 44 + 8 + 24);
+    test.same(|| "lines".to_string(), lines.len(), 8 * 44 + 8 + 24);
     let refused = |number: u8| (format!("{number} 0 129 129 a1a2a3a4"), format!("{number} 0 0 0"));
     let answered = |restored: &str, shown: &str| (restored.to_string(), shown.to_string());
     let sound = [
@@ -489,6 +489,7 @@ fn lines_of_lies(test: &mut Test) {
         let by_hand = sound.iter().find(|(other, _)| *other == name);
         let (restored, shown) = by_hand.map_or(refused(17), |(_, answers)| answers.clone());
         test.same(about, (said("restore"), said("show")), (&restored[..], &shown[..]));
+        test.same(about, said("part"), if shown.starts_with("0 ") { "2" } else { "0" });
         test.same(about, said("present-129"), &format!("{} {unchanged}", if is_sound { 7 } else { 17 }));
         for (word, place, present) in [("present-0", 0, true), ("absent-4", 4, false)] {
             let mut after = map.places;
@@ -527,7 +528,7 @@ fn lines_of_lies(test: &mut Test) {
     ];
     for (n, (mark, number, count, highest, present)) in steps.into_iter().enumerate() {
         let wanted = format!("{mark} {number} {count} {highest} {}", map(present));
-        test.same(|| format!("walk {n}"), &lines[7 * 44 + 8 + n], &wanted);
+        test.same(|| format!("walk {n}"), &lines[8 * 44 + 8 + n], &wanted);
     }
 }
 

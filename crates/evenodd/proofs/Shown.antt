@@ -84,7 +84,7 @@ module _ (m k b : ℕ) (map : Map) (s bench : List ℕ) (column : ℕ) where
     pub show-7 : k + 2 ≤ column → Places m k b map s bench column (Refused NoSuchColumn)
     show-7 h = rules (gives-first h)
 
-    -- so many columns are absent as the count says
+    -- so many columns are absent as the count leaves of k + 2
     counted : absences k (map .places) ≡ absentByCount k map
     counted = absent-counted map (lent .truth) k (lent .clear) .1
 

@@ -23,7 +23,7 @@ use Rattle.inputs.specs.declared.shapes.Refusal.{Refusal}
 use Rattle.inputs.specs.Refusals.{pass, refuse, Rule, Gives}
 use Rattle.inputs.specs.Absent.{Stray, Counts}
 use Rattle.inputs.specs.Truth.{TrueMap}
-use Rattle.inputs.specs.Rules.{benchLengthDiffers, lyingMap, strayColumn, tooManyAbsent, stripeRules, lentRules, gapRules}
+use Rattle.inputs.specs.Rules.{benchLengthDiffers, tooManyAbsent, stripeRules, mapRules, lentRules, gapRules}
 use Rattle.inputs.specs.Shapes.{verdictOf, goodColumn, refusalOf}
 use Rattle.inputs.specs.Tests as tests
 use Rattle.inputs.specs.Tests.{JudgesStripe, JudgesLent, JudgesGaps}
@@ -77,7 +77,7 @@ module _ (m k b n : ℕ) where
 
     pub lent-given : Gives (lentRules m k b map n w) pass → Fits
     lent-given g =
-        let (first, second) = gives-passed (stripeRules m k b n) (benchLengthDiffers m b w ∷ lyingMap map ∷ strayColumn k map ∷ []) g in
+        let (first, second) = gives-passed (stripeRules m k b n) (benchLengthDiffers m b w ∷ mapRules k map) g in
         let (shape, stripe) = stripe-given m k b n first in
         let (held, rest) = passed-first second in
         let (honest, last) = passed-first rest in
@@ -85,7 +85,7 @@ module _ (m k b n : ℕ) where
 
     pub lent-passed : Fits → Gives (lentRules m k b map n w) pass
     lent-passed f =
-        gives-after (stripeRules m k b n) (benchLengthDiffers m b w ∷ lyingMap map ∷ strayColumn k map ∷ []) pass (stripe-passed m k b n (f .shape) (f .stripe)) (gives-next (λ d. d (f .held)) (gives-next (λ lies. lies (f .truth)) (gives-next (f .clear) refl)))
+        gives-after (stripeRules m k b n) (benchLengthDiffers m b w ∷ mapRules k map) pass (stripe-passed m k b n (f .shape) (f .stripe)) (gives-next (λ d. d (f .held)) (gives-next (λ lies. lies (f .truth)) (gives-next (f .clear) refl)))
 
     pub gaps-passed : Fits → absences k (map .places) ≤ 2 → Gives (gapRules m k b map n w) pass
     gaps-passed f few = gives-after (lentRules m k b map n w) (tooManyAbsent k map ∷ []) pass (lent-passed f) (gives-next (λ many. omega arith) refl)

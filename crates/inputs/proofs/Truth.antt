@@ -26,7 +26,8 @@ use Rattle.parity.proofs.Count.{last-pass, none-pass}
 use Rattle.inputs.specs.declared.maps.Map.{Map}
 use Rattle.inputs.specs.Absent.{PresentFrom, Stray}
 use Rattle.inputs.specs.Maps.{OfPlaces}
-use Rattle.inputs.specs.Truth.{Highest, Topped, TrueMap, HighestFrom, absentByCount}
+use Rattle.inputs.specs.Truth.{Highest, TrueMap, HighestFrom, absentByCount}
+use Rattle.inputs.specs.Tops.{Topped}
 use Rattle.inputs.proofs.Absent.{past-all}
 use Rattle.inputs.proofs.Present.{same-count, both-counted, one-more}
 

@@ -2,6 +2,7 @@
 pub mod Refusals
 pub mod Absent
 pub mod Truth
+pub mod Tops
 pub mod Rules
 pub mod Shapes
 pub mod Maps

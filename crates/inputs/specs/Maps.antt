@@ -1,5 +1,5 @@
 -- The presence map: 129 places, place 0 first, how many are present, and the highest present one. Every call that makes a map but `of_parts` makes a true
--- one, and what is asked of a map is answered by its places alone, whatever its two numbers are.
+-- one, save that a mark hands a map that lies back as it is; and what is asked of a map is answered by its places alone, whatever its two numbers are.
 --   New r                       every place is absent
 --   OfPlaces places r           the map has those places
 --   OfBytes bytes r             place t is present exactly when byte t is 1

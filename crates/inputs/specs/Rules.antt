@@ -16,6 +16,7 @@
 --                  the shapes pass (`ShapesPass`)
 --   stripeRules    1, 12, 13, 2: encode and check
 --   mendRules      1, 12, 13, 2, 6
+--   mapRules       17, 9: what a map of columns is asked
 --   lentRules      1, 12, 13, 2, 3, 17, 9: what a map, a stripe and a bench are asked first
 --   gapRules       1, 12, 13, 2, 3, 17, 9, 4
 --   restoreRules   1, 12, 13, 2, 3, 17, 9, 4, 5
@@ -82,8 +83,11 @@ stripeRules m k b n = shapeRules m k b ++ (stripeLengthDiffers m k b n ∷ [])
 abbrev pub mendRules : ℕ → ℕ → ℕ → List ℕ → List Rule
 mendRules m k b s = stripeRules m k b (length s) ++ (unmendable m k b s ∷ [])
 
+abbrev pub mapRules : ℕ → Map → List Rule
+mapRules k map = lyingMap map ∷ strayColumn k map ∷ []
+
 abbrev pub lentRules : ℕ → ℕ → ℕ → Map → ℕ → ℕ → List Rule
-lentRules m k b map n w = stripeRules m k b n ++ (benchLengthDiffers m b w ∷ lyingMap map ∷ strayColumn k map ∷ [])
+lentRules m k b map n w = stripeRules m k b n ++ (benchLengthDiffers m b w ∷ mapRules k map)
 
 abbrev pub gapRules : ℕ → ℕ → ℕ → Map → ℕ → ℕ → List Rule
 gapRules m k b map n w = lentRules m k b map n w ++ (tooManyAbsent k map ∷ [])

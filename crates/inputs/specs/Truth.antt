@@ -1,7 +1,6 @@
 -- The two numbers that a map keeps beside its places. Where a map is made of parts they can be anything, and then it may lie.
 --   Highest places h     h is the highest place that is present; 129 where none is
 --   TrueMap map          of the 129 places so many are present as the map counts, and the highest is the one that it names
---   Topped n places top  top is one more than the highest place below n that is present; 0 where none is
 --   HighestFrom n map    the highest place that the map names is n or above; 129 names none
 --   absentByCount k map  how many of k + 2 columns are absent, if so many places are present as the map counts, and no other
 use mathlib.Core.Path.{_≡_}
@@ -23,11 +22,6 @@ pub record TrueMap (map : Map) : Type 0 where
   pub whole : length (map .places) ≡ 129
   pub counted : map .present ≡ count 129 (present (map .places))
   pub named : Highest (map .places) (map .highest)
-
-pub record Topped (n : ℕ) (places : List Bool) (top : ℕ) : Type 0 where
-  pub most : top ≤ n
-  pub there : 1 ≤ top → present places (top - 1) ≡ true
-  pub above : (t : ℕ) → top ≤ t → t < n → present places t ≡ false
 
 abbrev pub HighestFrom : ℕ → Map → Type 0
 HighestFrom n map = (map .highest ≢ 129) × (n ≤ map .highest)

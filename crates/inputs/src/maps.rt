@@ -11,7 +11,8 @@ ghost use lib.ListN.{length, set};
 ghost use Rattle.parity.specs.Sum.{count};
 ghost use Rattle.parity.specs.Presence.{present};
 ghost use Rattle.inputs.specs.Absent.{Counts};
-ghost use Rattle.inputs.specs.Truth.{Highest, Topped, TrueMap, HighestFrom};
+ghost use Rattle.inputs.specs.Truth.{Highest, TrueMap, HighestFrom};
+ghost use Rattle.inputs.specs.Tops.{Topped};
 ghost use Rattle.inputs.specs.Maps.{New, OfPlaces, OfBytes, AsBytes, TellsTruth, MarkedAs, Marks, JudgesPlace, FindsGaps, FindsStrays};
 
 // `present` is how many places are present, and `highest` the highest of them; 129 stands for none. Anybody may read and set these two numbers, so a map may

@@ -69,6 +69,17 @@ fn call_lines(out: &mut [u8], at: usize, name: &[u8], map: Map) -> usize {
     show_line(out, third, b"", [3, 3, 1], map, &c1, &bench, 0)
 }
 
+// How many bytes show hands out of column 0: none where it is refused.
+fn part_line(out: &mut [u8], at: usize, name: &[u8], map: Map) -> usize {
+    let c1 = [1u8, 2, 4, 8, 16, 32, 21, 42, 57, 30];
+    let bench = [161u8, 162, 163, 164];
+    let first = say_case(out, at, name, map);
+    let second = say_word(out, first, b" part");
+    let part = evenodd::show(3, 3, 1, map, &c1, &bench, 0);
+    let third = say_number(out, second, part.len());
+    say_word(out, third, b"\n")
+}
+
 // A place that is present in most of the maps is marked present.
 fn present_line(out: &mut [u8], at: usize, name: &[u8], map: Map) -> usize {
     let first = say_case(out, at, name, map);
@@ -113,7 +124,7 @@ fn question_line(out: &mut [u8], at: usize, name: &[u8], map: Map) -> usize {
     say_kept(out, third, Map::of_bytes(&bytes))
 }
 
-// The three marks.
+// Three marks.
 fn mark_lines(out: &mut [u8], at: usize, name: &[u8], map: Map) -> usize {
     let first = present_line(out, at, name, map);
     let second = absent_line(out, first, name, map);
@@ -124,6 +135,7 @@ fn mark_lines(out: &mut [u8], at: usize, name: &[u8], map: Map) -> usize {
 pub(crate) fn map_lines(out: &mut [u8], at: usize, name: &[u8], map: Map) -> usize {
     let first = truth_line(out, at, name, map);
     let second = call_lines(out, first, name, map);
-    let third = mark_lines(out, second, name, map);
-    question_line(out, third, name, map)
+    let third = part_line(out, second, name, map);
+    let fourth = mark_lines(out, third, name, map);
+    question_line(out, fourth, name, map)
 }

@@ -74,12 +74,19 @@ fn columns_off(out: &mut [u8], at: usize) -> usize {
     let mut stray = five();
     stray[5] = true;
     let a = four_maps(out, at, b"stray", stray, [6, 6, 5, 5], [5, 4, 5, 4]);
-    let mut two = five();
-    two[0] = false;
-    two[1] = false;
-    let b = four_maps(out, a, b"two-absent", two, [3, 2, 5, 3], [4, 4, 4, 2]);
-    two[2] = false;
-    four_maps(out, b, b"three-absent", two, [2, 3, 5, 2], [4, 4, 4, 129])
+    let mut absent = five();
+    absent[0] = false;
+    absent[1] = false;
+    let b = four_maps(out, a, b"two-absent", absent, [3, 2, 5, 3], [4, 4, 4, 2]);
+    absent[2] = false;
+    four_maps(
+        out,
+        b,
+        b"three-absent",
+        absent,
+        [2, 3, 5, 2],
+        [4, 4, 4, 129],
+    )
 }
 
 // Every place is present, and the last alone.

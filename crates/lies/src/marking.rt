@@ -1,4 +1,4 @@
-// Marks of true maps: one after another, and of every place.
+// Marks of true maps, one after another.
 use crate::asking::mark_line;
 use crate::asking::say_far;
 use evenodd::Map;
@@ -32,7 +32,7 @@ impl Marking {
     }
 
     // Each of these places is marked present.
-    fn come(self, out: &mut [u8], places: [usize; 4]) -> Self {
+    fn each_present(self, out: &mut [u8], places: [usize; 4]) -> Self {
         let mut walk = self;
         for i in 0..4 {
             walk = walk.present(out, places[i]);
@@ -41,7 +41,7 @@ impl Marking {
     }
 
     // Each is marked absent.
-    fn go(self, out: &mut [u8], places: [usize; 4]) -> Self {
+    fn each_absent(self, out: &mut [u8], places: [usize; 4]) -> Self {
         let mut walk = self;
         for i in 0..4 {
             walk = walk.absent(out, places[i]);
@@ -51,7 +51,7 @@ impl Marking {
 
     // Both.
     fn come_and_go(self, out: &mut [u8], places: [usize; 4]) -> Self {
-        self.come(out, places).go(out, places)
+        self.each_present(out, places).each_absent(out, places)
     }
 }
 

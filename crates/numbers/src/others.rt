@@ -76,11 +76,11 @@ pub(crate) fn gaps(out: &mut [u8], at: usize) -> usize {
 pub(crate) fn gaps_at_the_last(out: &mut [u8], at: usize) -> usize {
     let mut last = [0u8; 129];
     last[128] = 1;
-    let mut others = [1u8; 129];
-    others[128] = 0;
+    let mut but_last = [1u8; 129];
+    but_last[128] = 0;
     let a = gaps_line(out, at, b"gaps,128,k=126", 126, last);
     let b = gaps_line(out, a, b"gaps,128,k=127", 127, last);
-    gaps_line(out, b, b"gaps,k=max", 18446744073709551615, others)
+    gaps_line(out, b, b"gaps,k=max", 18446744073709551615, but_last)
 }
 
 // One wrong number of the shape, beside a bench of another length.

@@ -1,12 +1,13 @@
 -- Each call determines what it gives: the proofs of the statements in specs/Determined. The promise of the call below leaves one answer,
 -- and the results are that answer's.
-use mathlib.Core.Path.{_≡_, ap, sym, _∙_}
+use mathlib.Core.Path.{sym, _∙_}
 use mathlib.Core.List.{List}
 use mathlib.Core.Logic.{_≢_}
 use Prim.Native.Nat.{ℕ, _+_}
 use native.Mathlib.Omega.{arith}
 use lib.ListN.{length}
-use Rattle.inputs.specs.Rules.{restoreRules, showRules}
+use Rattle.inputs.specs.Rules.{stripeRules, mendRules, restoreRules, showRules}
+use Rattle.image.specs.Reads.{readRules}
 use Rattle.inputs.proofs.Rules.{never-number}
 use Rattle.inputs.specs.Determined.{OfBytesOne, AsBytesOne, FindsGapsOne}
 use Rattle.inputs.proofs.Determined.{of-bytes-one, as-bytes-one, finds-gaps-one}
@@ -14,7 +15,7 @@ use Rattle.evenodd.specs.Determined.{PlacesOne, RestoresOne, MendsOne, EncodesO
 use Rattle.evenodd.proofs.Determined.{places-one, restores-one, mends-one, encodes-one, checks-one}
 use Rattle.image.specs.Determined.{ReadsOne}
 use Rattle.image.proofs.Determined.{reads-one}
-use Rattle.oarwillow.specs.Calls.{RestoreGives, ShowGives}
+use Rattle.oarwillow.specs.Calls.{EncodeGives, CheckGives, RestoreGives, MendGives, ShowGives, ReadGives}
 use Rattle.oarwillow.specs.Determined.{EncodeGivesOne, CheckGivesOne, RestoreGivesOne, MendGivesOne, ShowGivesOne, ReadGivesOne, GapsGivesOne, NeverLying}
 
 pub encode-gives-one : EncodeGivesOne
@@ -67,8 +68,20 @@ gaps-gives-one k places n h x y z r n′ h′ x′ y′ z′ r′ p q =
 
 pub never-lying : NeverLying
 unfolding NeverLying
-never-lying = (restored, shown)
+never-lying = (encoded, checked, mended, taken, restored, shown)
   where
+    encoded : (m k b : ℕ) (s after : List ℕ) (r : ℕ) → EncodeGives m k b s after r → r ≢ 17
+    encoded m k b s after r p e = never-number 17 (stripeRules m k b (length s)) _ (omega arith) (λ q. absurd (omega arith), (λ q. absurd (omega arith), (λ q. absurd (omega arith), (λ q. absurd (omega arith), tt)))) (p .meets .told) (sym (p .number) ∙ e)
+
+    checked : (m k b : ℕ) (s : List ℕ) (x y r : ℕ) → CheckGives m k b s x y r → r ≢ 17
+    checked m k b s x y r p e = never-number 17 (stripeRules m k b (length s)) _ (omega arith) (λ q. absurd (omega arith), (λ q. absurd (omega arith), (λ q. absurd (omega arith), (λ q. absurd (omega arith), tt)))) (p .meets .told) (sym (p .number) ∙ e)
+
+    mended : (m k b : ℕ) (s after : List ℕ) (x r : ℕ) → MendGives m k b s after x r → r ≢ 17
+    mended m k b s after x r p e = never-number 17 (mendRules m k b s) _ (omega arith) (λ q. absurd (omega arith), (λ q. absurd (omega arith), (λ q. absurd (omega arith), (λ q. absurd (omega arith), (λ q. absurd (omega arith), tt))))) (p .meets .told) (sym (p .number) ∙ e)
+
+    taken : (image s after places : List ℕ) (x y z r : ℕ) → ReadGives image s after places x y z r → r ≢ 17
+    taken image s after places x y z r p e = never-number 17 (readRules image (length s)) _ (omega arith) (λ q. absurd (omega arith), (λ q. absurd (omega arith), (λ q. absurd (omega arith), (λ q. absurd (omega arith), (λ q. absurd (omega arith), (λ q. absurd (omega arith), tt)))))) (p .meets .told) (sym (p .number) ∙ e)
+
     restored : (m k b : ℕ) (places s bench after : List ℕ) (n x y r : ℕ) → RestoreGives m k b places s bench after n x y r → r ≢ 17
     restored m k b places s bench after n x y r p e =
         never-number 17 (restoreRules m k b (p .map) s (length bench)) _ (omega arith)

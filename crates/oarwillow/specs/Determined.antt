@@ -38,5 +38,9 @@ GapsGivesOne = (k : ℕ) (places : List ℕ) (n h x y z r n′ h′ x′ y′ z�
 
 unfoldable pub NeverLying : Type 0
 NeverLying =
-    ((m k b : ℕ) (places s bench after : List ℕ) (n x y r : ℕ) → RestoreGives m k b places s bench after n x y r → r ≢ 17)
+    ((m k b : ℕ) (s after : List ℕ) (r : ℕ) → EncodeGives m k b s after r → r ≢ 17)
+    × ((m k b : ℕ) (s : List ℕ) (x y r : ℕ) → CheckGives m k b s x y r → r ≢ 17)
+    × ((m k b : ℕ) (s after : List ℕ) (x r : ℕ) → MendGives m k b s after x r → r ≢ 17)
+    × ((image s after places : List ℕ) (x y z r : ℕ) → ReadGives image s after places x y z r → r ≢ 17)
+    × ((m k b : ℕ) (places s bench after : List ℕ) (n x y r : ℕ) → RestoreGives m k b places s bench after n x y r → r ≢ 17)
     × ((m k b : ℕ) (places s bench : List ℕ) (column x y n r : ℕ) → ShowGives m k b places s bench column x y n r → r ≢ 17)

@@ -179,7 +179,7 @@ pub extern "C" fn oarwillow_read(
     }
 }
 
-// The columns with k data columns, of the map's 129 places.
+// How many columns there are with k data columns: k + 2, and no more than the map's 129 places.
 fn columns_of(k: usize) -> usize
     ensures { λ r. ⌜ (k < 127 → r ≡ k + 2) × (127 ≤ k → r ≡ 129) ⌝ }
 {

@@ -11,16 +11,14 @@
 --   image-long, image-bad, image-formed   a judgement of an image, by the way out
 use mathlib.Core.Path.{_≡_, refl, sym, ap, _∙_}
 use mathlib.Core.Logic.{_⊎_, inl, inr}
-use mathlib.Core.Bool.{Bool, true, false, not, cond, true≢false}
+use mathlib.Core.Bool.{Bool, true≢false}
 use mathlib.Core.List.{List, [], _∷_, _++_}
-use Prim.Native.Nat.{ℕ, suc, _+_, _-_, _≤_, _<_}
-use native.Mathlib.Numerals.{add-one}
+use Prim.Native.Nat.{ℕ, _+_, _-_, _≤_, _<_}
 use native.Mathlib.Omega.{arith}
 use lib.ListN.{length, take, drop}
 use lib.Seq.{take-at, drop-at, length-take-le}
 use borrow.Rule.Slice.PartMut.{putMid}
-use Rattle.parity.specs.Sum.{count}
-use Rattle.parity.specs.Presence.{present, absences}
+use Rattle.parity.specs.Presence.{absences}
 use Rattle.cells.proofs.Parts.{by-order}
 use Rattle.inputs.specs.declared.maps.Map.{Map}
 use Rattle.evenodd.specs.declared.restores.Restored.the-variants as restored

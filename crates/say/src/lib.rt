@@ -1,4 +1,4 @@
-// Lines of text that say what the library answers: for the program `numbers`. A line is written into a lent buffer.
+// Lines of text that say what the library answers: for the programs `numbers` and `lies`. A line is written into a lent buffer.
 mod images;
 mod operations;
 

@@ -47,7 +47,7 @@ add-columns : tie.Need-add-columns
 add-columns c = omega (arith, places-most (good c .numbers .shape))
 
 sub-absent : tie.Need-sub-absent
-sub-absent c = let lent = good (c .before) in omega (arith, absent-counted _ (lent .truth) _ (lent .clear) .0)
+sub-absent c = let lent = good (c .before) in omega (arith, absent-counted _ (lent .truth) _ (lent .clear) .0, places-most (lent .numbers .shape))
 
 returns-2 : tie.Need-returns-2
 returns-2 c = show-7 _ _ _ _ _ _ _ (good (c .before .before)) (c .if1 .taken)

@@ -49,7 +49,7 @@ absent : (c : tie.After-known-told) → let a = c .before .before .before .befor
 absent c = absent-counted _ (good c .truth) _ (good c .clear)
 
 sub-absent : tie.Need-sub-absent
-sub-absent c = omega (arith, absent (c .before) .0)
+sub-absent c = omega (arith, absent (c .before) .0, places-most (good (c .before) .numbers .shape))
 
 returns-2 : tie.Need-returns-2
 returns-2 c =

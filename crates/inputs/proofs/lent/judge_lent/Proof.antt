@@ -2,14 +2,14 @@
 -- from the highest place is a law of true maps.
 use mathlib.Core.Path.{_≡_, refl, sym, ap, _∙_}
 use mathlib.Core.Bool.{true≢false}
-use mathlib.Core.List.{List, [], _∷_}
+use mathlib.Core.List.{List, _∷_}
 use Prim.Native.Nat.{ℕ, _+_, _*_}
 use native.Mathlib.Omega.{arith}
 use Rattle.parity.specs.Shape.{benchLength}
 use borrow.Author.Tests.{not-true, not-false}
 use Rattle.inputs.specs.declared.maps.Map.{Map}
 use Rattle.inputs.specs.Refusals.{Rule}
-use Rattle.inputs.specs.Rules.{benchLengthDiffers, lyingMap, strayColumn, stripeRules}
+use Rattle.inputs.specs.Rules.{benchLengthDiffers, stripeRules, mapRules}
 use Rattle.inputs.specs.Truth.{TrueMap}
 use Rattle.inputs.proofs.Rules.{gives-first, gives-next, gives-after}
 use Rattle.inputs.proofs.Shape.{places-most, parts-most}
@@ -27,7 +27,7 @@ bench-right c = c .if1 .left ∙ ap (λ (n : ℕ). 2 * n) (good (c .before) .col
 
 -- the rules after those of the stripe
 abbrev lastRules : ℕ → ℕ → ℕ → Map → ℕ → List Rule
-lastRules m k b map w = benchLengthDiffers m b w ∷ lyingMap map ∷ strayColumn k map ∷ []
+lastRules m k b map w = benchLengthDiffers m b w ∷ mapRules k map
 
 judge-stripe-requires : tie.Need-judge-stripe-requires
 judge-stripe-requires c κs = tt

@@ -5,7 +5,7 @@ use native.Mathlib.Nat.{mul-le-mul-right, one-mul}
 use native.Mathlib.Omega.{arith}
 use borrow.Author.Needs.{needs}
 use Rattle.parity.specs.Presence.{present}
-use Rattle.inputs.specs.Truth.{Topped}
+use Rattle.inputs.specs.Tops.{Topped}
 use Rattle.inputs.proofs.Present.{byte-most}
 use Rattle.inputs.proofs.Truth.{topped-none, topped-more}
 use Rattle.inputs.proofs.maps.find_top.Statement.{statement}

@@ -1,10 +1,10 @@
--- `lies::marking::Marking::come` ends, and `out` keeps its length.
+-- `lies::marking::Marking::each_absent` ends, and `out` keeps its length.
 use mathlib.Core.Path.{_≡_}
 use Prim.Native.Nat.{_≤_, _-_}
 use lib.ListN.{length}
 use borrow.Author.Needs.{needs}
-use Rattle.lies.proofs.marking.Marking.come.Statement.{statement}
-use Rattle.lies.proofs.marking.Marking.come.Tie as tie
+use Rattle.lies.proofs.marking.Marking.each_absent.Statement.{statement}
+use Rattle.lies.proofs.marking.Marking.each_absent.Tie as tie
 
 abbrev Inv-loop : tie.InvT-loop
 Inv-loop out₀ places walk₀ i₀ out walk i = (i ≤ 4) × (length out ≡ length out₀)
@@ -15,14 +15,14 @@ abbrev μ-loop : tie.MeasureT-loop
 loop-holds : tie.Need-loop-holds Inv-loop μ-loop
 loop-holds c = search needs
 
-mul-present : tie.Need-mul-present Inv-loop μ-loop
-mul-present c = search needs
+mul-absent : tie.Need-mul-absent Inv-loop μ-loop
+mul-absent c = search needs
 
-array-read-present : tie.Need-array-read-present Inv-loop μ-loop
-array-read-present c = search needs
+array-read-absent : tie.Need-array-read-absent Inv-loop μ-loop
+array-read-absent c = search needs
 
-present-requires : tie.Need-present-requires Inv-loop μ-loop
-present-requires c κs = search needs
+absent-requires : tie.Need-absent-requires Inv-loop μ-loop
+absent-requires c κs = search needs
 
 add-i : tie.Need-add-i Inv-loop μ-loop
 add-i c = search needs
@@ -39,16 +39,16 @@ same-length c = search needs
 returns : tie.Need-returns Inv-loop μ-loop
 returns c = search needs
 
-pub come-spec : {M : Type 1} → statement M
-come-spec =
+pub each-absent-spec : {M : Type 1} → statement M
+each-absent-spec =
     tie.close
     (tie.spec
     Inv-loop
     μ-loop
     loop-holds
-    mul-present
-    array-read-present
-    present-requires
+    mul-absent
+    array-read-absent
+    absent-requires
     add-i
     loop-less
     loop-again
