@@ -51,6 +51,11 @@ uint8_t oarwillow_mend(size_t m, size_t k, size_t b, uint8_t *stripe, size_t str
 uint8_t oarwillow_show(size_t m, size_t k, size_t b, const uint8_t places[129], const uint8_t *stripe, size_t stripe_len,
                        const uint8_t *bench, size_t bench_len, size_t column, size_t *from_bench, size_t *start, size_t *length);
 
+/* Says what a shelf image has, its shape and its presence map, without a stripe: oarwillow_stripe_length then gives the length of the
+ * stripe that oarwillow_read asks for. The whole image is judged, as oarwillow_read does it, but for 2. On a refusal: shape 0 0 0, and
+ * every place absent. Refusals: 8 for under eight bytes or a non-zero fourth number, 1, 12, 13, 8 for any other departure. */
+uint8_t oarwillow_contents(const uint8_t *image, size_t image_len, uint8_t places[129], size_t *m, size_t *k, size_t *b);
+
 /* Reads a shelf image: its shape, its presence map, and the bodies of the present columns to their places in the stripe; absent
  * columns' bytes stay. On a refusal: shape 0 0 0, and every place absent. Refusals: 8 for under eight bytes or a non-zero fourth
  * number, 1, 12, 13, 8 for any other departure, 2. */
@@ -63,6 +68,14 @@ uint8_t oarwillow_read(const uint8_t *image, size_t image_len, uint8_t *stripe, 
  * it returns 0. */
 uint8_t oarwillow_gaps(size_t k, const uint8_t places[129], size_t *present, size_t *highest, size_t *absent, size_t *first,
                        size_t *second);
+
+/* How many bytes a stripe of that shape has, (k + 2)(m - 1)b, at most 66,576,384; 0 where the three numbers are no shape, which the other
+ * calls refuse with 1, 12 or 13. The length is what it returns; it takes any numbers. */
+size_t oarwillow_stripe_length(size_t m, size_t k, size_t b);
+
+/* How many bytes a bench has, 2(m - 1)b, at most 1,032,192, whatever k is; 0 where m is not an odd prime from 3 to 127, or b is 0 or
+ * above 4,096. The length is what it returns; it takes any numbers. */
+size_t oarwillow_bench_length(size_t m, size_t b);
 
 #ifdef __cplusplus
 }

@@ -54,6 +54,14 @@ impl Shape {
     fn real(self, row: usize, column: usize) -> bool { row < self.m - 1 && column < self.k }
 }
 
+/// The bytes of a stripe for any three numbers, and of a bench, which is two columns whatever k is. 0 where a number that
+/// counts is wrong.
+pub fn lengths(Shape { m, k, b }: Shape) -> (usize, usize) {
+    if m > 127 || !is_odd_prime(m) || b < 1 || b > 4096 { return (0, 0); }
+    let column = (m - 1) * b;
+    (if k < 1 || k > m { 0 } else { (k + 2) * column }, 2 * column)
+}
+
 /// The presence map: its places, where true is present, and what it says of them, how many are present and which is
 /// the highest present one. A map made of parts may say what its places do not bear out.
 #[derive(Clone, Copy, PartialEq, Debug)]

@@ -52,6 +52,8 @@ pub const GAP_KS: [usize; 9] = [0, 1, 125, 126, 127, 128, 129, MAX - 1, MAX];
 const GAP_MAPS: [&str; 9] = ["none", "all", "only-0", "only-128", "drawn", "no-gap", "one-gap", "two-gaps", "above"];
 /// These are asked of for every k from 0 to 130.
 const EVERY_GAP_MAPS: [&str; 4] = ["drawn", "no-gap", "two-gaps", "above"];
+/// For every m from 0 to 140 lengths are asked with each of these, and with k = 0, 1, m and m+1.
+const EVERY_LENGTH_B: [usize; 4] = [0, 1, 4096, 4097];
 
 pub const PATTERNS: [&str; 9] = ["none", "data", "H", "D", "data+data", "data+H", "data+D", "H+D", "three-or-more"];
 pub const AT_MOST_ONE: [&str; 4] = ["none", "data", "H", "D"];
@@ -122,6 +124,7 @@ enum Recipe {
     LongCells(usize),
     Mark(bool),
     Gaps,
+    Lengths,
     Contents(Vec<Flaw>, &'static str),
     /// The last says whether the lent stripe has the right length.
     Read(Vec<Flaw>, &'static str, bool),
@@ -162,6 +165,9 @@ fn code_recipes() -> Vec<Recipe> {
 /// About 4 of 100 requests.
 fn gap_recipes() -> Vec<Recipe> { (0..22).map(|_| Recipe::Gaps).collect() }
 
+/// About 6 of 100 requests.
+fn length_recipes() -> Vec<Recipe> { (0..34).map(|_| Recipe::Lengths).collect() }
+
 fn image_recipes() -> Vec<Recipe> {
     let mut list = vec![Recipe::Contents(vec![], "far"), Recipe::Read(vec![], "any", false)];
     for pattern in PATTERNS.into_iter().chain(["all", "all"]) {
@@ -187,6 +193,7 @@ pub struct Maker {
     prime_turn: usize,
     bad_turns: [usize; 3],
     gap_turn: usize,
+    length_turn: usize,
 }
 
 struct Scene { shape: Shape, map: Map, stripe: Vec<u8>, bench: Vec<u8> }
@@ -194,18 +201,18 @@ struct Scene { shape: Shape, map: Map, stripe: Vec<u8>, bench: Vec<u8> }
 impl Maker {
     pub fn new(seed: u64) -> Maker {
         let primes = (3..=127).filter(|&m| is_odd_prime(m)).collect();
-        Maker { random: Random(seed), primes, size_turn: 0, prime_turn: 0, bad_turns: [0; 3], gap_turn: 0 }
+        Maker { random: Random(seed), primes, size_turn: 0, prime_turn: 0, bad_turns: [0; 3], gap_turn: 0, length_turn: 0 }
     }
 
     pub fn cases(mut self, count: usize) -> impl Iterator<Item = Case> {
-        let recipes = [code_recipes(), gap_recipes(), code_recipes(), image_recipes()];
+        let recipes = [code_recipes(), gap_recipes(), length_recipes(), code_recipes(), image_recipes()];
         let recipes: Vec<Recipe> = recipes.into_iter().flatten().collect();
         (0..count).map(move |n| self.make(&recipes[n % recipes.len()]))
     }
 
     /// At each of several small shapes: every set of at most two absent columns, of a valid stripe and with each
-    /// present column wrong, and a mend of every single wrong column. Then a few requests at large shapes, and the gaps
-    /// of a few maps for every k from 0 to 130.
+    /// present column wrong, and a mend of every single wrong column. Then a few requests at large shapes, the gaps
+    /// of a few maps for every k from 0 to 130, and lengths for every m from 0 to 140.
     pub fn every_pattern(mut self) -> Vec<Request> {
         let mut requests = Vec::new();
         for (m, k, b) in SMALL {
@@ -238,6 +245,11 @@ impl Maker {
         requests.extend(self.wide(Shape { m, k, b }));
         for k in 0..=130 {
             requests.extend(EVERY_GAP_MAPS.map(|kind| Request::Gaps(k, self.gap_map(kind, k))));
+        }
+        for m in 0..=140 {
+            for k in [0, 1, m, m + 1] {
+                requests.extend(EVERY_LENGTH_B.map(|b| Request::Lengths(Shape { m, k, b })));
+            }
         }
         requests
     }
@@ -499,6 +511,31 @@ impl Maker {
         Map::counted(places)
     }
 
+    /// Three numbers, right or wrong, of any size, since no buffer has to be made for them. There are 71 kinds of m, 36 of
+    /// them wrong, 19 of k, 10 of them wrong, and 23 of b, 8 of them wrong: after 71 turns each was met.
+    fn any_numbers(&mut self, turn: usize) -> Shape {
+        let m = match turn % 71 {
+            n if n < BAD_M.len() => BAD_M[n],
+            n if n < BAD_M.len() + self.primes.len() => self.primes[n - BAD_M.len()],
+            _ => self.random.one_of(&self.primes),
+        };
+        let k = match turn % 19 {
+            n if n < BAD_K.len() => BAD_K[n],
+            8 => m.saturating_add(1),
+            9 => m.saturating_add(1 + self.random.below(127)).min(127),
+            10 => 1,
+            11 => m.max(1),
+            _ => 1 + self.random.below(m.clamp(1, 127)),
+        };
+        let b = match turn % 23 {
+            n if n < BAD_B.len() => BAD_B[n],
+            8 => 1,
+            9 => 4096,
+            _ => 1 + self.random.below(4096),
+        };
+        Shape { m, k, b }
+    }
+
     fn bad_length(&mut self, bytes: &mut Vec<u8>, column: usize) {
         let (was, filler) = (bytes.len(), self.random.byte());
         let now = match self.random.below(8) {
@@ -627,6 +664,12 @@ impl Maker {
                 let k = self.gap_k(turn);
                 let map = self.gap_map(GAP_MAPS[turn % GAP_MAPS.len()], k);
                 Case { request: Request::Gaps(k, map), expected: Some(FINE) }
+            }
+            // No refusal is given.
+            Recipe::Lengths => {
+                let turn = self.length_turn;
+                self.length_turn += 1;
+                Case { request: Request::Lengths(self.any_numbers(turn)), expected: None }
             }
             Recipe::Contents(flaws, pattern) => {
                 let (image, number, _) = self.image(flaws, pattern, Damage::None);

@@ -1,7 +1,7 @@
 /* Answers the requests of the second program with the library, through its C interface. Reads one request a line from standard
    input and writes one answer a line. Every buffer that is lent stands between guard bytes; a guard that changed is reported and
-   ends the run. Marks and contents are no calls of the C interface: their requests are answered with an empty line. A map is
-   handed over as its places alone. */
+   ends the run. Marks are no calls of the C interface: their requests are answered with an empty line. A map is handed over as its
+   places alone. */
 #include <stdint.h>
 #include <stdio.h>
 #include <stdlib.h>
@@ -71,6 +71,14 @@ static void map_of(const char *field, uint8_t places[129])
         places[i] = field[i] == '1' ? 1 : absent[i % sizeof absent];
 }
 
+/* What was said of an image. */
+static void print_image(unsigned r, size_t m, size_t k, size_t b, const uint8_t places[129])
+{
+    printf("%u %zu %zu %zu ", r, m, k, b);
+    for (size_t i = 0; i < 129; i++)
+        printf("%u", places[i]);
+}
+
 static void answer(char **f)
 {
     size_t m = f[1] ? number(f[1]) : 0, k = f[2] ? number(f[2]) : 0, b = f[3] ? number(f[3]) : 0;
@@ -118,14 +126,22 @@ static void answer(char **f)
     } else if (strcmp(f[0], "read") == 0) {
         Buffer image = buffer(f[1]), s = buffer(f[2]);
         memset(places, 77, sizeof places);
+        m = k = b = 77;
         unsigned r = oarwillow_read(image.bytes, image.length, s.bytes, s.length, places, &m, &k, &b);
-        printf("%u %zu %zu %zu ", r, m, k, b);
-        for (size_t i = 0; i < 129; i++)
-            printf("%u", places[i]);
+        print_image(r, m, k, b, places);
         putchar(' ');
         print_bytes(s);
         done(image);
         done(s);
+    } else if (strcmp(f[0], "contents") == 0) {
+        Buffer image = buffer(f[1]);
+        memset(places, 77, sizeof places);
+        m = k = b = 77;
+        unsigned r = oarwillow_contents(image.bytes, image.length, places, &m, &k, &b);
+        print_image(r, m, k, b, places);
+        done(image);
+    } else if (strcmp(f[0], "lengths") == 0) {
+        printf("%zu %zu", oarwillow_stripe_length(m, k, b), oarwillow_bench_length(m, b));
     }
     putchar('\n');
 }

@@ -1,4 +1,5 @@
-//! The numbers of the document, as requests with the answers the document gives, and more about wrong shapes and gaps.
+//! The numbers of the document, as requests with the answers the document gives, and more about wrong shapes, lengths and
+//! gaps.
 
 use crate::code::*;
 use crate::image::shelf;
@@ -133,6 +134,13 @@ pub fn all() -> Vec<Number> {
         ask("length=11", format!("encode 3 3 1 {C1}00"), format!("2 {C1}00")),
         ask("place=5", format!("restore 3 3 1 {stray} {C1} a1a2a3a4"), s("9 0 129 129 a1a2a3a4")),
         ask("place=5", format!("show 3 3 1 {stray} {C1} a1a2a3a4 0"), s("9 0 0 0")),
+        ask("lengths,C1", s("lengths 3 3 1"), s("10 4")),
+        ask("lengths,m=127", s("lengths 127 3 1"), s("630 252")),
+        ask("lengths,m=9", s("lengths 9 3 1"), s("0 0")),
+        ask("lengths,k=4", s("lengths 3 4 1"), s("0 4")),
+        ask("lengths,k=max", format!("lengths 3 {MAX} 1"), s("0 4")),
+        ask("lengths,b=4097", s("lengths 3 3 4097"), s("0 0")),
+        ask("lengths,all=max", format!("lengths {MAX} {MAX} {MAX}"), s("0 0")),
         ask("gaps,C5", format!("gaps 3 {cols_134}"), s("0 3 4 2 0 2")),
         ask("gaps,none", format!("gaps 3 {}", present(&[])), s("0 0 129 5 0 1")),
         ask("gaps,all,k=127", format!("gaps 127 {}", "1".repeat(PLACES)), s("0 129 128 0 129 129")),

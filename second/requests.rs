@@ -14,6 +14,7 @@ pub enum Request {
     Gaps(usize, Map),
     Read(Vec<u8>, Vec<u8>),
     Contents(Vec<u8>),
+    Lengths(Shape),
 }
 
 use Request::*;
@@ -89,6 +90,7 @@ impl fmt::Display for Request {
             Gaps(k, map) => write!(f, "{word} {k} {map}"),
             Read(image, s) => write!(f, "{word} {} {}", field(image), field(s)),
             Contents(image) => write!(f, "{word} {}", field(image)),
+            Lengths(n) => write!(f, "{word} {n}"),
         }
     }
 }
@@ -105,6 +107,7 @@ impl Request {
             Gaps(..) => "gaps",
             Read(..) => "read",
             Contents(..) => "contents",
+            Lengths(..) => "lengths",
         }
     }
 
@@ -128,6 +131,7 @@ impl Request {
             ("gaps", 3) => Gaps(number_of(parts[1])?, map_of(parts[2])?),
             ("read", 3) => Read(bytes_of(parts[1])?, bytes_of(parts[2])?),
             ("contents", 2) => Contents(bytes_of(parts[1])?),
+            ("lengths", 4) => Lengths(shape()?),
             _ => return None,
         })
     }
@@ -174,6 +178,10 @@ impl Request {
             Contents(image) => {
                 let done = image::contents(image);
                 format!("{} {} {}", done.number, done.shape, done.map)
+            }
+            Lengths(n) => {
+                let (stripe, bench) = lengths(*n);
+                format!("{stripe} {bench}")
             }
         }
     }

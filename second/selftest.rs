@@ -42,7 +42,7 @@ fn by_the_rules(m: usize, k: usize, b: usize) -> u8 {
     }
 }
 
-/// The shape check against these.
+/// The shape check and the lengths against these.
 fn shapes(test: &mut Test) {
     for m in 0..70_000 {
         test.same(|| format!("m={m}"), Shape { m, k: 1, b: 1 }.judge(), by_the_rules(m, 1, 1));
@@ -52,7 +52,64 @@ fn shapes(test: &mut Test) {
             for b in [0, 1, 2, 4095, 4096, 4097, 65_536, usize::MAX] {
                 let shape = Shape { m, k, b };
                 test.same(|| format!("shape {shape}"), shape.judge(), by_the_rules(m, k, b));
+                let lengths = Request::Lengths(shape).answer();
+                test.same(|| format!("lengths {shape}"), lengths, lengths_by_the_rules(m, k, b));
             }
+        }
+    }
+}
+
+/// The lengths of a stripe and of a bench: how many columns there are, how many rows, and how many bytes in a cell.
+fn lengths_by_the_rules(m: usize, k: usize, b: usize) -> String {
+    let cell = if (1..=4096).contains(&b) { b } else { 0 };
+    let rows = if DOCUMENT_PRIMES.contains(&m) { m - 1 } else { 0 };
+    let columns = if (1..=m).contains(&k) { k + 2 } else { 0 };
+    format!("{} {}", columns * rows * cell, 2 * rows * cell)
+}
+
+fn lengths(test: &mut Test) {
+    let by_hand = [
+        ([3, 3, 1], "10 4"),
+        ([3, 1, 1], "6 4"),
+        ([5, 5, 1], "28 8"),
+        ([3, 3, 2], "20 8"),
+        ([5, 1, 3], "36 24"),
+        ([127, 1, 1], "378 252"),
+        ([3, 1, 4096], "24576 16384"),
+        ([127, 127, 4096], "66576384 1032192"),
+        ([3, 0, 1], "0 4"),
+        ([3, 4, 1], "0 4"),
+        ([3, MAX - 1, 4096], "0 16384"),
+        ([127, MAX, 4096], "0 1032192"),
+        ([2, 1, 1], "0 0"),
+        ([9, 1, 1], "0 0"),
+        ([129, 1, 1], "0 0"),
+        ([131, 1, 1], "0 0"),
+        ([3, 1, 0], "0 0"),
+        ([3, 1, 4097], "0 0"),
+        ([3, 1, (1 << 63) + 1], "0 0"),
+        ([MAX, 1, 1], "0 0"),
+        ([MAX, MAX, MAX], "0 0"),
+    ];
+    for ([m, k, b], wanted) in by_hand {
+        let line = format!("lengths {m} {k} {b}");
+        let request = Request::parse(&line).expect("the request is written rightly");
+        test.same(|| "text".to_string(), &request.to_string(), &line);
+        test.same(|| line.clone(), &request.answer()[..], wanted);
+    }
+    for rest in ["", "3", "3 3", "3 3 1 1", "3 3 18446744073709551616", "3 3 -1"] {
+        test.same(|| format!("malformed lengths {rest}"), Request::parse(&format!("lengths {rest}")).is_none(), true);
+    }
+    // A stripe and a bench of these lengths are what a restore asks for, and no others are.
+    for (m, k, b) in [(3, 1, 1), (3, 3, 2), (5, 2, 3), (7, 7, 1), (127, 2, 1)] {
+        let shape = Shape { m, k, b };
+        let answer = Request::Lengths(shape).answer();
+        let (stripe, bench) = answer.split_once(' ').expect("two lengths");
+        let (stripe, bench): (usize, usize) = (stripe.parse().expect("a length"), bench.parse().expect("a length"));
+        let map = Map::all_but(k + 2, &[0]);
+        for (more, less, wanted) in [(0, 0, FINE), (1, 0, 2), (0, 1, 3)] {
+            let (stripe, mut bench) = (vec![0; stripe + more], vec![0; bench - less]);
+            test.same(|| format!("lengths of {shape}"), restore(shape, &map, &stripe, &mut bench).number, wanted);
         }
     }
 }
@@ -210,6 +267,10 @@ fn generated(test: &mut Test) {
             let request = Request::parse(&line).expect("a generated line can be read");
             test.same(|| "text".to_string(), &request.to_string(), &line);
             let answer = request.answer();
+            if let Request::Lengths(Shape { m, k, b }) = request {
+                test.same(|| format!("seed {seed} {line}"), answer, lengths_by_the_rules(m, k, b));
+                continue;
+            }
             let number: u8 = answer.split(' ').next().and_then(|n| n.parse().ok()).expect("a number");
             let head: String = line.chars().take(200).collect();
             test.same(|| format!("seed {seed} {head}"), number, case.expected.unwrap_or(number));
@@ -547,9 +608,10 @@ fn maps(test: &mut Test) {
 }
 
 pub fn run(out: &mut impl Write) -> io::Result<bool> {
-    let groups: [(&str, fn(&mut Test)); 7] = [
+    let groups: [(&str, fn(&mut Test)); 8] = [
         ("document", document),
         ("shapes", shapes),
+        ("lengths", lengths),
         ("searches", searches),
         ("ranks", ranks),
         ("images", images),

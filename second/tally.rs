@@ -51,6 +51,12 @@ const GAPS: [&str; 15] = [
     "absent 0", "absent 1", "absent 2", "absent more",
 ];
 
+/// Of a request for lengths: which of its numbers are wrong, and the kinds of k and b. Its m are named one by one.
+const LENGTHS: [&str; 16] = [
+    "wrong none", "wrong m", "wrong k", "wrong b", "wrong m+k", "wrong m+b", "wrong k+b", "wrong m+k+b",
+    "k=1", "k=m", "1<k<m", "k=m+1", "m+1<k<128", "b=1", "1<b<4096", "b=4096",
+];
+
 const IMAGE_FAULTS: [&str; 13] = [
     "none", "short", "fourth", "m", "k", "b", "contents-cut", "column", "state", "pad", "offset", "body-cut", "trailing",
 ];
@@ -78,6 +84,11 @@ fn expected_cells() -> Vec<String> {
     cells.extend(SIZES.iter().map(|b| format!("b={b}")));
     cells.extend(GAP_KS.iter().map(|k| format!("gaps k={k}")));
     cells.extend(GAPS.iter().map(|name| format!("gaps {name}")));
+    cells.extend(LENGTHS.iter().map(|name| format!("lengths {name}")));
+    let all_m = BAD_M.into_iter().chain((3..=127).filter(|&m| is_odd_prime(m)));
+    cells.extend(all_m.map(|m| format!("lengths m={m}")));
+    cells.extend(BAD_K.iter().map(|k| format!("lengths k={k}")));
+    cells.extend(BAD_B.iter().map(|b| format!("lengths b={b}")));
     for word in ["read", "contents"] {
         cells.extend(IMAGE_FAULTS.iter().map(|fault| format!("{word} fault {fault}")));
     }
@@ -216,6 +227,26 @@ impl Tally {
         self.add(if absent > 2 { "gaps absent more".to_string() } else { format!("gaps absent {absent}") });
     }
 
+    fn lengths(&mut self, shape: Shape) {
+        let Shape { m, k, b } = shape;
+        let named = shape_faults(shape).into_iter().zip(["m", "k", "b"]);
+        let wrong: Vec<&str> = named.filter(|((_, wrong), _)| *wrong).map(|(_, name)| name).collect();
+        self.add(format!("lengths wrong {}", if wrong.is_empty() { "none".to_string() } else { wrong.join("+") }));
+        self.add(format!("lengths m={m}"));
+        self.add(match k {
+            k if BAD_K.contains(&k) => format!("lengths k={k}"),
+            1 => "lengths k=1".to_string(),
+            k if k == m => "lengths k=m".to_string(),
+            k if k < m => "lengths 1<k<m".to_string(),
+            k if k == m + 1 => "lengths k=m+1".to_string(),
+            _ => "lengths m+1<k<128".to_string(),
+        });
+        self.add(match b {
+            2..=4095 => "lengths 1<b<4096".to_string(),
+            _ => format!("lengths b={b}"),
+        });
+    }
+
     fn mended(&mut self, shape: Shape, stripe: &[u8], answer: &[usize]) {
         let Shape { m, k, b } = shape;
         match answer {
@@ -237,6 +268,8 @@ impl Tally {
     }
 
     fn count(&mut self, request: &Request) {
+        // It is not refused: its answer begins with a length.
+        if let Request::Lengths(shape) = request { return self.lengths(*shape); }
         let text = request.answer();
         let answer: Vec<usize> = text.split(' ').map_while(|field| field.parse().ok()).collect();
         let number = answer[0] as u8;
@@ -272,6 +305,7 @@ impl Tally {
                 self.image("contents", bytes);
                 if number == FINE && bytes.len() > 65_536 { self.add("contents far"); }
             }
+            Request::Lengths(_) => {}
         }
     }
 }

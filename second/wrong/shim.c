@@ -15,7 +15,10 @@ uint8_t unproved_mend(size_t m, size_t k, size_t b, Part *stripe, size_t *column
 uint8_t unproved_show(size_t m, size_t k, size_t b, const uint8_t *places, Part *stripe, Part *bench, size_t column,
                       size_t *from_bench, size_t *start, size_t *length);
 uint8_t unproved_read(Part *image, Part *stripe, uint8_t *places, size_t *m, size_t *k, size_t *b);
+uint8_t unproved_contents(Part *image, uint8_t *places, size_t *m, size_t *k, size_t *b);
 uint8_t unproved_gaps(size_t k, const uint8_t *places, size_t *present, size_t *highest, size_t *absent, size_t *first, size_t *second);
+size_t unproved_stripe_length(size_t m, size_t k, size_t b);
+size_t unproved_bench_length(size_t m, size_t b);
 
 uint8_t oarwillow_encode(size_t m, size_t k, size_t b, uint8_t *stripe, size_t stripe_len)
 {
@@ -56,7 +59,23 @@ uint8_t oarwillow_read(const uint8_t *image, size_t image_len, uint8_t *stripe, 
     return unproved_read(&i, &s, places, m, k, b);
 }
 
+uint8_t oarwillow_contents(const uint8_t *image, size_t image_len, uint8_t places[129], size_t *m, size_t *k, size_t *b)
+{
+    Part i = {image, image_len};
+    return unproved_contents(&i, places, m, k, b);
+}
+
 uint8_t oarwillow_gaps(size_t k, const uint8_t places[129], size_t *present, size_t *highest, size_t *absent, size_t *first, size_t *second)
 {
     return unproved_gaps(k, places, present, highest, absent, first, second);
+}
+
+size_t oarwillow_stripe_length(size_t m, size_t k, size_t b)
+{
+    return unproved_stripe_length(m, k, b);
+}
+
+size_t oarwillow_bench_length(size_t m, size_t b)
+{
+    return unproved_bench_length(m, b);
 }

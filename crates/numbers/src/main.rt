@@ -1,4 +1,4 @@
-// Runs every number that the document gives to hold against the build, and more of wrong shapes and of gaps, and prints what the library answers, one line each. What is printed is
+// Runs every number that the document gives to hold against the build, and more of wrong shapes, of lengths and of gaps, and prints what the library answers, one line each. What is printed is
 // compared with the stored text.
 mod others;
 
@@ -11,6 +11,12 @@ fn proved_cases(out: &mut [u8], at: usize) -> usize {
     cases::three_absent(out, d)
 }
 
+// Lengths of a stripe and of a bench.
+fn length_cases(out: &mut [u8], at: usize) -> usize {
+    let next = others::lengths_of_shapes(out, at);
+    others::lengths_of_others(out, next)
+}
+
 // Gaps.
 fn gap_cases(out: &mut [u8], at: usize) -> usize {
     let next = others::gaps(out, at);
@@ -21,10 +27,11 @@ fn gap_cases(out: &mut [u8], at: usize) -> usize {
 fn other_cases(out: &mut [u8], at: usize) -> usize {
     let a = others::lengths(out, at);
     let b = others::places(out, a);
-    let c = gap_cases(out, b);
-    let d = others::shapes_and_benches(out, c);
-    let e = others::shapes_and_lengths(out, d);
-    others::wrong_cells(out, e)
+    let c = length_cases(out, b);
+    let d = gap_cases(out, c);
+    let e = others::shapes_and_benches(out, d);
+    let f = others::shapes_and_lengths(out, e);
+    others::wrong_cells(out, f)
 }
 
 // Images.

@@ -32,6 +32,32 @@ pub(crate) fn places(out: &mut [u8], at: usize) -> usize {
     show_line(out, first, b"place=5", [3, 3, 1], stray, &c1, &bench, 0)
 }
 
+// How many bytes a stripe has, and a bench.
+fn lengths_line(out: &mut [u8], at: usize, name: &[u8], m: usize, k: usize, b: usize) -> usize {
+    let stripe = oarwillow::oarwillow_stripe_length(m, k, b);
+    let bench = oarwillow::oarwillow_bench_length(m, b);
+    let head = say_head(out, at, name, b" lengths");
+    let first = say_number(out, head, stripe);
+    let second = say_number(out, first, bench);
+    say_word(out, second, b"\n")
+}
+
+// The lengths for C1's shape, for a larger m, and for a wrong one.
+pub(crate) fn lengths_of_shapes(out: &mut [u8], at: usize) -> usize {
+    let a = lengths_line(out, at, b"lengths,C1", 3, 3, 1);
+    let b = lengths_line(out, a, b"lengths,m=127", 127, 3, 1);
+    lengths_line(out, b, b"lengths,m=9", 9, 3, 1)
+}
+
+// Those for a wrong k, which leaves the bench its length, for a wrong b, and for three wrong numbers.
+pub(crate) fn lengths_of_others(out: &mut [u8], at: usize) -> usize {
+    let max = 18446744073709551615;
+    let a = lengths_line(out, at, b"lengths,k=4", 3, 4, 1);
+    let b = lengths_line(out, a, b"lengths,k=max", 3, max, 1);
+    let c = lengths_line(out, b, b"lengths,b=4097", 3, 3, 4097);
+    lengths_line(out, c, b"lengths,all=max", max, max, max)
+}
+
 // Three numbers.
 fn say_three(out: &mut [u8], at: usize, x: usize, y: usize, z: usize) -> usize {
     let first = say_number(out, at, x);

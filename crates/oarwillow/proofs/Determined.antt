@@ -1,22 +1,24 @@
 -- Each call determines what it gives: the proofs of the statements in specs/Determined. The promise of the call below leaves one answer,
 -- and the results are that answer's.
-use mathlib.Core.Path.{sym, _∙_}
+use mathlib.Core.Path.{_≡_, sym, _∙_}
 use mathlib.Core.List.{List}
 use mathlib.Core.Logic.{_≢_}
 use Prim.Native.Nat.{ℕ, _+_}
 use native.Mathlib.Omega.{arith}
 use lib.ListN.{length}
+use Rattle.parity.specs.Shape.{stripeLength, benchLength}
 use Rattle.inputs.specs.Rules.{stripeRules, mendRules, restoreRules, showRules}
-use Rattle.image.specs.Reads.{readRules}
-use Rattle.inputs.proofs.Rules.{never-number}
+use Rattle.image.specs.Reads.{contentsRules, readRules}
+use Rattle.inputs.proofs.Rules.{never-number, equal-of}
 use Rattle.inputs.specs.Determined.{OfBytesOne, AsBytesOne, FindsGapsOne}
 use Rattle.inputs.proofs.Determined.{of-bytes-one, as-bytes-one, finds-gaps-one}
 use Rattle.evenodd.specs.Determined.{PlacesOne, RestoresOne, MendsOne, EncodesOne, ChecksOne}
 use Rattle.evenodd.proofs.Determined.{places-one, restores-one, mends-one, encodes-one, checks-one}
-use Rattle.image.specs.Determined.{ReadsOne}
-use Rattle.image.proofs.Determined.{reads-one}
-use Rattle.oarwillow.specs.Calls.{EncodeGives, CheckGives, RestoreGives, MendGives, ShowGives, ReadGives}
-use Rattle.oarwillow.specs.Determined.{EncodeGivesOne, CheckGivesOne, RestoreGivesOne, MendGivesOne, ShowGivesOne, ReadGivesOne, GapsGivesOne, NeverLying}
+use Rattle.image.specs.declared.answers.Contents.{Contents}
+use Rattle.image.specs.Determined.{ContentsOne, ReadsOne}
+use Rattle.image.proofs.Determined.{contents-one, reads-one}
+use Rattle.oarwillow.specs.Calls.{EncodeGives, CheckGives, RestoreGives, MendGives, ShowGives, ContentsWritten, ContentsGives, ReadGives}
+use Rattle.oarwillow.specs.Determined.{EncodeGivesOne, CheckGivesOne, RestoreGivesOne, MendGivesOne, ShowGivesOne, ContentsGivesOne, ReadGivesOne, GapsGivesOne, StripeLengthGivesOne, BenchLengthGivesOne, NeverLying}
 
 pub encode-gives-one : EncodeGivesOne
 unfolding EncodeGivesOne EncodesOne
@@ -50,12 +52,25 @@ show-gives-one m k b places s bench column x y n r x′ y′ n′ r′ p q =
     let e = places-one m k b (p .map) s bench column (p .answer) (q .answer) (p .meets) (rw same (q .meets)) in
     (cc, cc, cc, cc)
 
+-- what is found determines what is written
+written-one : (found other : Contents) (places : List ℕ) (x y z r : ℕ) (places′ : List ℕ) (x′ y′ z′ r′ : ℕ) → found ≡ other
+    → ContentsWritten found places x y z r → ContentsWritten other places′ x′ y′ z′ r′
+    → (places ≡ places′) × (x ≡ x′) × (y ≡ y′) × (z ≡ z′) × (r ≡ r′)
+unfolding AsBytesOne
+written-one found other places x y z r places′ x′ y′ z′ r′ e p q =
+    (as-bytes-one (found .map) places places′ (p .marks) (rw e (q .marks)), cc, cc, cc, cc)
+
+pub contents-gives-one : ContentsGivesOne
+unfolding ContentsGivesOne ContentsOne
+contents-gives-one image places x y z r places′ x′ y′ z′ r′ p q =
+    written-one (p .answer) (q .answer) places x y z r places′ x′ y′ z′ r′ (contents-one image (p .answer) (q .answer) (p .meets) (q .meets)) (p .written) (q .written)
+
 pub read-gives-one : ReadGivesOne
-unfolding ReadGivesOne ReadsOne AsBytesOne
+unfolding ReadGivesOne ReadsOne
 read-gives-one image s after places x y z r after′ places′ x′ y′ z′ r′ p q =
     let (e, bytes) = reads-one image s after after′ (p .answer) (q .answer) (p .meets) (q .meets) in
-    let marks = as-bytes-one (p .answer .map) places places′ (p .marks) (rw e (q .marks)) in
-    (bytes, marks, cc, cc, cc, cc)
+    let (marks, first, second, third, number) = written-one (p .answer) (q .answer) places x y z r places′ x′ y′ z′ r′ e (p .written) (q .written) in
+    (bytes, marks, first, second, third, number)
 
 pub gaps-gives-one : GapsGivesOne
 unfolding GapsGivesOne OfBytesOne FindsGapsOne
@@ -64,11 +79,23 @@ gaps-gives-one k places n h x y z r n′ h′ x′ y′ z′ r′ p q =
     let e = finds-gaps-one (p .map) (k + 2) (p .answer) (q .answer) (p .meets) (rw same (q .meets)) in
     (cc, cc, cc, cc, cc, cc)
 
+-- two numbers that are x where P holds, and 0 where it does not, are one; so it need not be decided which
+length-one : {P : Type 0} (x r r′ : ℕ) → (P → r ≡ x) → ((P → ⊥) → r ≡ 0) → (P → r′ ≡ x) → ((P → ⊥) → r′ ≡ 0) → r ≡ r′
+length-one {P} x r r′ good bad good′ bad′ = equal-of r r′ (λ differ. let no : P → ⊥ = λ p. differ (good p ∙ sym (good′ p)) in differ (bad no ∙ sym (bad′ no)))
+
+pub stripe-length-gives-one : StripeLengthGivesOne
+unfolding StripeLengthGivesOne
+stripe-length-gives-one m k b r r′ p q = length-one (stripeLength m k b) r r′ (p .good) (p .bad) (q .good) (q .bad)
+
+pub bench-length-gives-one : BenchLengthGivesOne
+unfolding BenchLengthGivesOne
+bench-length-gives-one m b r r′ p q = length-one (benchLength m b) r r′ (p .good) (p .bad) (q .good) (q .bad)
+
 -- ---- 17 is never given
 
 pub never-lying : NeverLying
 unfolding NeverLying
-never-lying = (encoded, checked, mended, taken, restored, shown)
+never-lying = (encoded, checked, mended, said, taken, restored, shown)
   where
     encoded : (m k b : ℕ) (s after : List ℕ) (r : ℕ) → EncodeGives m k b s after r → r ≢ 17
     encoded m k b s after r p e = never-number 17 (stripeRules m k b (length s)) _ (omega arith) (λ q. absurd (omega arith), (λ q. absurd (omega arith), (λ q. absurd (omega arith), (λ q. absurd (omega arith), tt)))) (p .meets .told) (sym (p .number) ∙ e)
@@ -79,8 +106,11 @@ never-lying = (encoded, checked, mended, taken, restored, shown)
     mended : (m k b : ℕ) (s after : List ℕ) (x r : ℕ) → MendGives m k b s after x r → r ≢ 17
     mended m k b s after x r p e = never-number 17 (mendRules m k b s) _ (omega arith) (λ q. absurd (omega arith), (λ q. absurd (omega arith), (λ q. absurd (omega arith), (λ q. absurd (omega arith), (λ q. absurd (omega arith), tt))))) (p .meets .told) (sym (p .number) ∙ e)
 
+    said : (image places : List ℕ) (x y z r : ℕ) → ContentsGives image places x y z r → r ≢ 17
+    said image places x y z r p e = never-number 17 (contentsRules image) _ (omega arith) (λ q. absurd (omega arith), (λ q. absurd (omega arith), (λ q. absurd (omega arith), (λ q. absurd (omega arith), (λ q. absurd (omega arith), tt))))) (p .meets .told) (sym (p .written .number) ∙ e)
+
     taken : (image s after places : List ℕ) (x y z r : ℕ) → ReadGives image s after places x y z r → r ≢ 17
-    taken image s after places x y z r p e = never-number 17 (readRules image (length s)) _ (omega arith) (λ q. absurd (omega arith), (λ q. absurd (omega arith), (λ q. absurd (omega arith), (λ q. absurd (omega arith), (λ q. absurd (omega arith), (λ q. absurd (omega arith), tt)))))) (p .meets .told) (sym (p .number) ∙ e)
+    taken image s after places x y z r p e = never-number 17 (readRules image (length s)) _ (omega arith) (λ q. absurd (omega arith), (λ q. absurd (omega arith), (λ q. absurd (omega arith), (λ q. absurd (omega arith), (λ q. absurd (omega arith), (λ q. absurd (omega arith), tt)))))) (p .meets .told) (sym (p .written .number) ∙ e)
 
     restored : (m k b : ℕ) (places s bench after : List ℕ) (n x y r : ℕ) → RestoreGives m k b places s bench after n x y r → r ≢ 17
     restored m k b places s bench after n x y r p e =

@@ -1,10 +1,14 @@
 -- What each call for C gives: there is an answer of the call below it that meets its promise, and the number and the results are that
 -- answer's. The parameters are the arguments, then the results, then the number.
---   EncodeGives, CheckGives, RestoreGives, MendGives, ShowGives, ReadGives
---   GapsGives    what the map of these bytes keeps, and its absent places below k + 2; it is never refused
+--   EncodeGives, CheckGives, RestoreGives, MendGives, ShowGives, ContentsGives, ReadGives
+--   ContentsWritten      what the last two write, of what was found
+--   GapsGives            what the map of these bytes keeps, and its absent places below k + 2; it is never refused
+--   StripeLengthGives    the bytes of a stripe; 0 where the three numbers are no shape
+--   BenchLengthGives     the bytes of a bench; 0 where m or b is not as a shape's. k is not asked
 use mathlib.Core.Path.{_≡_}
 use mathlib.Core.List.{List}
-use Prim.Native.Nat.{ℕ, _+_}
+use Prim.Native.Nat.{ℕ, _+_, _≤_}
+use Rattle.parity.specs.Shape.{OddPrime, Shape, stripeLength, benchLength}
 use Rattle.evenodd.specs.declared.checks.Checked.{Checked}
 use Rattle.evenodd.specs.declared.encodes.Encoded.{Encoded}
 use Rattle.inputs.specs.declared.maps.Gaps.{Gaps}
@@ -25,7 +29,7 @@ use Rattle.evenodd.specs.Mends as mends
 use Rattle.evenodd.specs.Shows.{Places, fromBenchOf, startOf, lengthOf}
 use Rattle.evenodd.specs.Shows as shows
 use Rattle.image.specs.declared.answers.Contents.{Contents}
-use Rattle.image.specs.Reads.{ReadInto, mOf, kOf, bOf}
+use Rattle.image.specs.Reads.{ContentsOf, ReadInto, mOf, kOf, bOf}
 use Rattle.image.specs.Reads as reads
 
 pub record EncodeGives (m k b : ℕ) (before after : List ℕ) (r : ℕ) : Type 0 where
@@ -66,14 +70,22 @@ pub record ShowGives (m k b : ℕ) (places s bench : List ℕ) (column x y n r :
   pub length : n ≡ lengthOf answer
   pub number : r ≡ answerNumber (shows.verdictOf answer)
 
+pub record ContentsWritten (found : Contents) (places : List ℕ) (x y z r : ℕ) : Type 0 where
+  pub marks : AsBytes (found .map) places
+  pub m : x ≡ mOf (found .answer)
+  pub k : y ≡ kOf (found .answer)
+  pub b : z ≡ bOf (found .answer)
+  pub number : r ≡ answerNumber (reads.verdictOf (found .answer))
+
+pub record ContentsGives (image places : List ℕ) (x y z r : ℕ) : Type 0 where
+  pub answer : Contents
+  pub meets : ContentsOf image answer
+  pub written : ContentsWritten answer places x y z r
+
 pub record ReadGives (image before after places : List ℕ) (x y z r : ℕ) : Type 0 where
   pub answer : Contents
   pub meets : ReadInto image before after answer
-  pub marks : AsBytes (answer .map) places
-  pub m : x ≡ mOf (answer .answer)
-  pub k : y ≡ kOf (answer .answer)
-  pub b : z ≡ bOf (answer .answer)
-  pub number : r ≡ answerNumber (reads.verdictOf (answer .answer))
+  pub written : ContentsWritten answer places x y z r
 
 pub record GapsGives (k : ℕ) (places : List ℕ) (n h x y z r : ℕ) : Type 0 where
   pub map : Map
@@ -86,3 +98,11 @@ pub record GapsGives (k : ℕ) (places : List ℕ) (n h x y z r : ℕ) : Type 0 
   pub first : y ≡ answer .first
   pub second : z ≡ answer .second
   pub number : r ≡ 0
+
+pub record StripeLengthGives (m k b r : ℕ) : Type 0 where
+  pub good : Shape m k b → r ≡ stripeLength m k b
+  pub bad : (Shape m k b → ⊥) → r ≡ 0
+
+pub record BenchLengthGives (m b r : ℕ) : Type 0 where
+  pub good : OddPrime m × (1 ≤ b) × (b ≤ 4096) → r ≡ benchLength m b
+  pub bad : (OddPrime m × (1 ≤ b) × (b ≤ 4096) → ⊥) → r ≡ 0

@@ -5,7 +5,7 @@ use mathlib.Core.Path.{_≡_}
 use mathlib.Core.Logic.{_≢_}
 use mathlib.Core.List.{List}
 use Prim.Native.Nat.{ℕ}
-use Rattle.oarwillow.specs.Calls.{EncodeGives, CheckGives, RestoreGives, MendGives, ShowGives, ReadGives, GapsGives}
+use Rattle.oarwillow.specs.Calls.{EncodeGives, CheckGives, RestoreGives, MendGives, ShowGives, ContentsGives, ReadGives, GapsGives, StripeLengthGives, BenchLengthGives}
 
 unfoldable pub EncodeGivesOne : Type 0
 EncodeGivesOne = (m k b : ℕ) (s after after′ : List ℕ) (r r′ : ℕ) → EncodeGives m k b s after r → EncodeGives m k b s after′ r′ → (after ≡ after′) × (r ≡ r′)
@@ -26,6 +26,11 @@ unfoldable pub ShowGivesOne : Type 0
 ShowGivesOne = (m k b : ℕ) (places s bench : List ℕ) (column x y n r x′ y′ n′ r′ : ℕ)
     → ShowGives m k b places s bench column x y n r → ShowGives m k b places s bench column x′ y′ n′ r′ → (x ≡ x′) × (y ≡ y′) × (n ≡ n′) × (r ≡ r′)
 
+unfoldable pub ContentsGivesOne : Type 0
+ContentsGivesOne = (image places : List ℕ) (x y z r : ℕ) (places′ : List ℕ) (x′ y′ z′ r′ : ℕ)
+    → ContentsGives image places x y z r → ContentsGives image places′ x′ y′ z′ r′
+    → (places ≡ places′) × (x ≡ x′) × (y ≡ y′) × (z ≡ z′) × (r ≡ r′)
+
 unfoldable pub ReadGivesOne : Type 0
 ReadGivesOne = (image s after places : List ℕ) (x y z r : ℕ) (after′ places′ : List ℕ) (x′ y′ z′ r′ : ℕ)
     → ReadGives image s after places x y z r → ReadGives image s after′ places′ x′ y′ z′ r′
@@ -36,11 +41,18 @@ GapsGivesOne = (k : ℕ) (places : List ℕ) (n h x y z r n′ h′ x′ y′ z�
     → GapsGives k places n h x y z r → GapsGives k places n′ h′ x′ y′ z′ r′
     → (n ≡ n′) × (h ≡ h′) × (x ≡ x′) × (y ≡ y′) × (z ≡ z′) × (r ≡ r′)
 
+unfoldable pub StripeLengthGivesOne : Type 0
+StripeLengthGivesOne = (m k b r r′ : ℕ) → StripeLengthGives m k b r → StripeLengthGives m k b r′ → r ≡ r′
+
+unfoldable pub BenchLengthGivesOne : Type 0
+BenchLengthGivesOne = (m b r r′ : ℕ) → BenchLengthGives m b r → BenchLengthGives m b r′ → r ≡ r′
+
 unfoldable pub NeverLying : Type 0
 NeverLying =
     ((m k b : ℕ) (s after : List ℕ) (r : ℕ) → EncodeGives m k b s after r → r ≢ 17)
     × ((m k b : ℕ) (s : List ℕ) (x y r : ℕ) → CheckGives m k b s x y r → r ≢ 17)
     × ((m k b : ℕ) (s after : List ℕ) (x r : ℕ) → MendGives m k b s after x r → r ≢ 17)
+    × ((image places : List ℕ) (x y z r : ℕ) → ContentsGives image places x y z r → r ≢ 17)
     × ((image s after places : List ℕ) (x y z r : ℕ) → ReadGives image s after places x y z r → r ≢ 17)
     × ((m k b : ℕ) (places s bench after : List ℕ) (n x y r : ℕ) → RestoreGives m k b places s bench after n x y r → r ≢ 17)
     × ((m k b : ℕ) (places s bench : List ℕ) (column x y n r : ℕ) → ShowGives m k b places s bench column x y n r → r ≢ 17)

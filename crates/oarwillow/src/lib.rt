@@ -1,15 +1,17 @@
 // The calls for programs in C, as include/oarwillow.h has them. Each hands its arguments on, returns the number of the refusal or 0,
-// and writes its other results behind the pointers, on a refusal too.
+// and writes its other results behind the pointers, on a refusal too. The two lengths are returned themselves, and are 0 for numbers outside their rules.
 use evenodd::Checked;
 use evenodd::Encoded;
+use evenodd::Judged;
 use evenodd::Map;
 use evenodd::Mended;
 use evenodd::Place;
 use evenodd::Restored;
+use image::Contents;
 use image::Read;
 ghost use mathlib.Core.Path.{_≡_};
 ghost use Prim.Native.Nat.{_+_, _≤_, _<_};
-ghost use Rattle.oarwillow.specs.Calls.{EncodeGives, CheckGives, RestoreGives, MendGives, ShowGives, ReadGives, GapsGives};
+ghost use Rattle.oarwillow.specs.Calls.{EncodeGives, CheckGives, RestoreGives, MendGives, ShowGives, ContentsWritten, ContentsGives, ReadGives, GapsGives, StripeLengthGives, BenchLengthGives};
 
 // Writes H and D.
 #[no_mangle]
@@ -148,19 +150,16 @@ pub extern "C" fn oarwillow_show(
     }
 }
 
-// Reads a shelf image into a stripe.
-#[no_mangle]
-pub extern "C" fn oarwillow_read(
-    image: &[u8],
-    stripe: &mut [u8],
+// Writes what was found of a shelf image: its map in bytes and its shape, 0 0 0 where it is refused. Returns the number.
+fn write_contents(
+    found: Contents,
     places: &mut [u8; 129],
     m: &mut usize,
     k: &mut usize,
     b: &mut usize,
 ) -> u8
-    ensures { λ r. ⌜ ReadGives (now (image .entry)) (now (stripe .entry)) (now (stripe .exit)) (now (places .exit)) (now (m .exit)) (now (k .exit)) (now (b .exit)) r ⌝ }
+    ensures { λ r. ⌜ ContentsWritten found (now (places .exit)) (now (m .exit)) (now (k .exit)) (now (b .exit)) r ⌝ }
 {
-    let found = image::read(image, stripe);
     let map = found.map;
     let answer = found.answer;
     let bytes = map.bytes();
@@ -177,6 +176,35 @@ pub extern "C" fn oarwillow_read(
         }
         Read::Refused(r) => r.number(),
     }
+}
+
+// Says what a shelf image has, its shape and its map, without a stripe.
+#[no_mangle]
+pub extern "C" fn oarwillow_contents(
+    image: &[u8],
+    places: &mut [u8; 129],
+    m: &mut usize,
+    k: &mut usize,
+    b: &mut usize,
+) -> u8
+    ensures { λ r. ⌜ ContentsGives (now (image .entry)) (now (places .exit)) (now (m .exit)) (now (k .exit)) (now (b .exit)) r ⌝ }
+{
+    write_contents(image::contents(image), places, m, k, b)
+}
+
+// Reads a shelf image into a stripe.
+#[no_mangle]
+pub extern "C" fn oarwillow_read(
+    image: &[u8],
+    stripe: &mut [u8],
+    places: &mut [u8; 129],
+    m: &mut usize,
+    k: &mut usize,
+    b: &mut usize,
+) -> u8
+    ensures { λ r. ⌜ ReadGives (now (image .entry)) (now (stripe .entry)) (now (stripe .exit)) (now (places .exit)) (now (m .exit)) (now (k .exit)) (now (b .exit)) r ⌝ }
+{
+    write_contents(image::read(image, stripe), places, m, k, b)
 }
 
 // How many columns there are with k data columns: k + 2, and no more than the map's 129 places.
@@ -207,4 +235,27 @@ pub extern "C" fn oarwillow_gaps(
     *first = gaps.first;
     *second = gaps.second;
     0
+}
+
+// How many bytes a stripe of that shape has; 0 where the three numbers are no shape.
+#[no_mangle]
+pub extern "C" fn oarwillow_stripe_length(m: usize, k: usize, b: usize) -> usize
+    ensures { λ r. ⌜ StripeLengthGives m k b r ⌝ }
+{
+    match evenodd::judge(m, k, b) {
+        Judged::Good { column } => (k + 2) * column,
+        Judged::Refused(_) => 0,
+    }
+}
+
+// How many bytes a bench has for that m and b; 0 where one of them is outside its rule. A bench is two columns whatever k is: k = 1 is asked, which is
+// right for every m.
+#[no_mangle]
+pub extern "C" fn oarwillow_bench_length(m: usize, b: usize) -> usize
+    ensures { λ r. ⌜ BenchLengthGives m b r ⌝ }
+{
+    match evenodd::judge(m, 1, b) {
+        Judged::Good { column } => 2 * column,
+        Judged::Refused(_) => 0,
+    }
 }
