@@ -144,7 +144,7 @@ pub fn mark(map: Map, place: usize, present: bool) -> Marked {
 pub struct Bits(Vec<u64>);
 
 impl Bits {
-    fn zero(width: usize) -> Bits { Bits(vec![0; width.div_ceil(64)]) }
+    fn zero(width: usize) -> Bits { Bits(vec![0; (width + 63) / 64]) }
     fn flip(&mut self, place: usize) { self.0[place / 64] ^= 1 << (place % 64); }
     fn get(&self, place: usize) -> bool { self.0[place / 64] >> (place % 64) & 1 == 1 }
     fn add(&mut self, other: &Bits) { self.0.iter_mut().zip(&other.0).for_each(|(x, y)| *x ^= y); }
@@ -218,7 +218,10 @@ pub fn solve(shape: Shape, equations: &[Bits], absent: &[usize], stripe: &[u8]) 
     }
     let mut used = 0;
     for u in 0..unknowns {
-        let Some(found) = (used..lines.len()).find(|&l| lines[l].unknown.get(u)) else { continue };
+        let found = match (used..lines.len()).find(|&l| lines[l].unknown.get(u)) {
+            Some(found) => found,
+            None => continue,
+        };
         lines.swap(used, found);
         let (above, rest) = lines.split_at_mut(used);
         let (pivot, below) = rest.split_first_mut().expect("a pivot line was found");
@@ -257,8 +260,9 @@ pub fn encode(shape: Shape, stripe: &mut [u8]) -> Encoded {
     if number != FINE {
         return Encoded { number };
     }
-    let Solution::One(parity) = solve(shape, &equations(shape), &[shape.k, shape.k + 1], stripe) else {
-        panic!("data always has one parity");
+    let parity = match solve(shape, &equations(shape), &[shape.k, shape.k + 1], stripe) {
+        Solution::One(parity) => parity,
+        _ => panic!("data always has one parity"),
     };
     stripe[shape.k * shape.column_length()..].copy_from_slice(&parity);
     Encoded { number: FINE }

@@ -800,12 +800,12 @@ impl Maker {
 
     fn shelf_image(&mut self, turn: usize) -> (Vec<u8>, Option<u8>) {
         match turn % IMAGE_KINDS {
-            n @ 0..9 => self.shelf_case(&[], PATTERNS[n], Damage::None),
+            n @ 0..=8 => self.shelf_case(&[], PATTERNS[n], Damage::None),
             9 => self.shelf_case(&[], "all", Damage::None),
-            n @ 10..14 => self.shelf_case(&[], PATTERNS[n - 10], Damage::OneColumn),
-            n @ 14..30 => self.shelf_case(&[FLAWS[n - 14]], "any", Damage::None),
-            n @ 30..73 => self.shelf_case(&wrong_and_more()[n - 30], "any", Damage::None),
-            n @ 73..77 => self.shelf_case(&[], PATTERNS[n - 69], Damage::Garbage),
+            n @ 10..=13 => self.shelf_case(&[], PATTERNS[n - 10], Damage::OneColumn),
+            n @ 14..=29 => self.shelf_case(&[FLAWS[n - 14]], "any", Damage::None),
+            n @ 30..=72 => self.shelf_case(&wrong_and_more()[n - 30], "any", Damage::None),
+            n @ 73..=76 => self.shelf_case(&[], PATTERNS[n - 69], Damage::Garbage),
             77 => (self.sized(INPUT_LIMIT, Damage::None), Some(FINE)),
             78 => (self.sized(INPUT_LIMIT, Damage::OneColumn), None),
             79 => ([self.sized(INPUT_LIMIT, Damage::None), vec![0]].concat(), Some(INPUT_TOO_LONG)),

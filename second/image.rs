@@ -16,7 +16,7 @@ pub fn header(image: &[u8]) -> Option<[usize; 4]> {
 }
 
 fn judge(image: &[u8]) -> Result<(Shape, Map), (u8, &'static str)> {
-    let Some([m, k, b, fourth]) = header(image) else { return Err((BAD_IMAGE, "short")) };
+    let [m, k, b, fourth] = header(image).ok_or((BAD_IMAGE, "short"))?;
     if fourth != 0 { return Err((BAD_IMAGE, "fourth")); }
     let shape = Shape { m, k, b };
     match shape.judge() {

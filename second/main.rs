@@ -79,21 +79,30 @@ fn run(arguments: &[&str], out: &mut impl Write) -> io::Result<bool> {
         ["answer"] => answer(out),
         ["tally"] => tally::run(io::stdin().lock(), out),
         ["generate", seed, count] => {
-            let (Ok(seed), Ok(count)) = (seed.parse(), count.parse()) else { return usage() };
+            let (seed, count) = match (seed.parse(), count.parse()) {
+                (Ok(seed), Ok(count)) => (seed, count),
+                _ => return usage(),
+            };
             for case in generate::Maker::new(seed).cases(count) {
                 writeln!(out, "{}", case.request)?;
             }
             Ok(true)
         }
         ["every", seed] => {
-            let Ok(seed) = seed.parse() else { return usage() };
+            let seed = match seed.parse() {
+                Ok(seed) => seed,
+                Err(_) => return usage(),
+            };
             for request in generate::Maker::new(seed).every_pattern() {
                 writeln!(out, "{request}")?;
             }
             Ok(true)
         }
         ["images", seed, count, folder] => {
-            let (Ok(seed), Ok(count)) = (seed.parse(), count.parse()) else { return usage() };
+            let (seed, count) = match (seed.parse(), count.parse()) {
+                (Ok(seed), Ok(count)) => (seed, count),
+                _ => return usage(),
+            };
             std::fs::create_dir_all(folder)?;
             for (n, (image, _)) in generate::Maker::new(seed).shelf_images(count).enumerate() {
                 std::fs::write(format!("{folder}/{n:05}.img"), image)?;

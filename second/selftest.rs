@@ -319,12 +319,12 @@ fn images(test: &mut Test) {
             other[place] ^= change;
             let wanted = match place {
                 // m, k and b: no other good shape fits these contents.
-                0..6 => {
+                0..=5 => {
                     let half = |at: usize| other[at] as usize + 256 * other[at + 1] as usize;
                     let number = by_the_rules(half(0), half(2), half(4));
                     if number == 0 { BAD_IMAGE } else { number }
                 }
-                6..48 => BAD_IMAGE,
+                6..=47 => BAD_IMAGE,
                 _ => FINE,
             };
             test.same(|| format!("byte {place} changed by {change}"), image::contents(&other).number, wanted);
