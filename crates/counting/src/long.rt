@@ -236,31 +236,34 @@ fn count_in_bands(s: &[u8], g: Grid, u: usize) -> usize
     ensures { λ r. ⌜ r ≡ breaks g (now (s .entry)) u ⌝ }
 {
     let mut at = [0usize; 256];
-    let mut w = [0u8; 53248];
-    sum_last(&mut at, &mut w, 49152, s, g, u);
-    count_bands(&mut at, &mut w, 49152, s, g, u)
+    let mut w = [0u8; 36864];
+    sum_last(&mut at, &mut w, 32768, s, g, u);
+    count_bands(&mut at, &mut w, 32768, s, g, u)
 }
 
-// How many of lines 0 to m - 2 differ from line m - 1. Lines of a small stripe are summed at once. Of a stripe too large for a near cache this is
-// slow with many columns; where a data column u is left out, a line has two cells in each column.
+// With how many data columns, at most, lines are summed at once. Of a stripe too large for a near cache that is slow with many columns; where a data
+// column u is left out, a line has two cells in each column.
+fn most_at_once(k: usize, u: usize, length: usize) -> usize
+    ensures { λ r. ⌜ r ≤ 32 ⌝ }
+{
+    if length <= 262144 {
+        return 32;
+    }
+    if k <= u {
+        return 10;
+    }
+    8
+}
+
+// How many of lines 0 to m - 2 differ from line m - 1. Each way is called once, so that the compiler can put the room of one where that of the other
+// would stand.
 pub(crate) fn count_long(s: &[u8], g: Grid, u: usize) -> usize
     requires { ⌜ (128 ≤ g .b) × Laid g (now s) ⌝ }
     ensures { λ r. ⌜ r ≡ breaks g (now (s .entry)) u ⌝ }
 {
     let k = g.k;
-    if 32 < k {
+    if most_at_once(k, u, s.len()) < k {
         return count_in_bands(s, g, u);
     }
-    if s.len() <= 262144 {
-        return count_at_once(s, g, u);
-    }
-    if k <= 8 {
-        return count_at_once(s, g, u);
-    }
-    if k <= u {
-        if k <= 10 {
-            return count_at_once(s, g, u);
-        }
-    }
-    count_in_bands(s, g, u)
+    count_at_once(s, g, u)
 }

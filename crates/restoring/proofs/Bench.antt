@@ -157,16 +157,19 @@ module _ (m b : ℕ) where
 
 -- ---- what was to be restored
 
-module _ (m k b : ℕ) {s w v : List ℕ} (whole : length w ≡ 2 * columnLength m b) where
-  pub one-restored : {u : ℕ} {f : Column} → Parted m b v f (λ i l. lane m b w l i 1)
+module _ (m k b : ℕ) {s w v : List ℕ} where
+  pub one-restored : {u : ℕ} {f : Column} → Lined (m - 1) b 0 w v f
       → ((r : List ℕ) → Valid m k b r → SameBut m k b u s r → (l i : ℕ) → l < b → i < m - 1 → f i l ≡ byte m b r l i u)
       → OneRestored m k b u s w v
   one-restored p so = record {
-    size = p .size ∙ sym whole;
-    first = λ r valid same l i hl hi. p .first i l hi hl ∙ so r valid same l i hl hi;
-    second = λ l i hl hi. p .second i l hi hl;
+    size = p .size;
+    first = λ r valid same l i hl hi. first-at m b v i l ∙ p .inside i l hi hl ∙ so r valid same l i hl hi;
+    second = λ l i hl hi.
+        let c = columnLength m b in
+        second-at m b c v i l refl ∙ p .after (c + (i * b + l)) (column-end m b c (i * b + l) refl) ∙ sym (second-at m b c w i l refl);
   }
 
+module _ (m k b : ℕ) {s w v : List ℕ} (whole : length w ≡ 2 * columnLength m b) where
   pub two-restored : {u u′ : ℕ} {f g : Column} → Parted m b v f g
       → ((r : List ℕ) → Valid m k b r → SameButTwo m k b u u′ s r → (l i : ℕ) → l < b → i < m - 1 → (f i l ≡ byte m b r l i u) × (g i l ≡ byte m b r l i u′))
       → TwoRestored m k b u u′ s w v

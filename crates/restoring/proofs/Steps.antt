@@ -2,6 +2,7 @@
 --   all-columns, one-line, whole-lines   what the sums ask for where they go over all data columns but u and v
 --   row-left, diagonal-left       what is left of a line, as it is summed
 --   past-end                      what stands past the end of a buffer is zero
+--   by-S, last-none               what is left when S is added; row m - 1 is zero
 --   one-by-rows, one-by-diagonals one column, restored
 --   begin-row, both-summed        both halves summed over some columns
 --   cleared, uncleared            the last cell of the first half was cleared, and that of the second was not
@@ -235,7 +236,45 @@ parted-from g h h′ p so = record { size = p .size; first = p .first; second = 
 pub restored-anew : {m k b u v : ℕ} {s w w₁ o : List ℕ} → length w₁ ≡ length w → TwoRestored m k b u v s w₁ o → TwoRestored m k b u v s w o
 restored-anew e p = record { size = p .size ∙ e; both = p .both }
 
--- ---- what was to be restored
+-- what a diagonal has beside S is left when S is added
+by-S : (z x : ℕ) → z ⊕ 0 ⊕ (z ⊕ x) ≡ x
+by-S z x = simp xor
+
+last-none : (m : ℕ) (a : Lane) (t : ℕ) → real m a (m - 1) t ≡ 0
+last-none m a t = real-out m a (m - 1) t (omega arith)
+
+-- ---- one column
+
+module _ (g : Grid) (s w : List ℕ) (laid : Laid g s) (u : ℕ) where
+  -- no column has number 129
+  no-column : g .k + 2 ≤ 129
+  no-column = omega (arith, laid .few, laid .sized .few)
+
+  pub one-by-rows : {o : List ℕ} → u ≤ g .k → Lined (g .m - 1) (g .b) 0 w o (rowLeft g u 129 s) → OneRestored (g .m) (g .k) (g .b) u s w o
+  one-by-rows low p =
+      let m = g .m in
+      let b = g .b in
+      one-restored m (g .k) b p (λ r valid same l i hl hi.
+      row-of-one m (g .k) (laid .sized .big) (laid .few) (lane m b s l) (lane m b r l) (valid .lanes l hl) u 129 (λ e. absurd (omega (arith, no-column)))
+      (λ x t hx ht ne _. same l x t hl hx ht ne) low (omega (arith, no-column)) i hi)
+
+  pub one-by-diagonals : {o : List ℕ} → u ≡ g .k + 1
+      → Lined (g .m - 1) (g .b) 0 w o (λ r l. diagonalLeft g u 129 s (g .m - 1) l ⊕ diagonalLeft g u 129 s ((r + 0) % g .m) l) → OneRestored (g .m) (g .k) (g .b) u s w o
+  one-by-diagonals is p =
+      let m = g .m in
+      let k = g .k in
+      let b = g .b in
+      one-restored m k b p (λ r valid same l i hl hi.
+      let a = lane m b r l in
+      let d : (i : ℕ) → i < m → diagonalLeft g u 129 s i l ≡ S m k a ⊕ real m a i (k + 1) =
+      d-first m k (laid .sized .big) (laid .few) (lane m b s l) a (valid .lanes l hl) u 129 (λ e. absurd (omega (arith, no-column)))
+      (λ x t hx ht ne _. same l x t hl hx ht ne) is (omega (arith, no-column)) in
+      ap₂ _⊕_ (d (m - 1) (omega arith) ∙ ap (λ (x : ℕ). S m k a ⊕ x) (last-none m a (k + 1)))
+      (ap (λ (j : ℕ). diagonalLeft g u 129 s j l) (whole-line (omega arith)) ∙ d i (omega arith) ∙ ap (λ (x : ℕ). S m k a ⊕ x) (real-in m a i (k + 1) hi))
+      ∙ by-S (S m k a) (a i (k + 1))
+      ∙ ap (a i) (sym is))
+
+-- ---- two columns
 
 module _ (g : Grid) (s w : List ℕ) (ready : Bench g s (length w)) where
   abbrev m : ℕ
@@ -262,32 +301,6 @@ module _ (g : Grid) (s w : List ℕ) (ready : Bench g s (length w)) where
   few-rows : m ≤ 127
   few-rows = ready .laid .sized .few
 
-  -- what a diagonal has beside S is left when S is added
-  by-S : (z x : ℕ) → z ⊕ 0 ⊕ (z ⊕ x) ≡ x
-  by-S z x = simp xor
-
-  last-none : (a : Lane) (t : ℕ) → real m a (m - 1) t ≡ 0
-  last-none a t = real-out m a (m - 1) t (omega arith)
-
-  -- ---- one column
-
-  pub one-by-rows : (u : ℕ) {o : List ℕ} → u ≤ k → Lined (m - 1) b 0 w o (rowLeft g u 129 s) → OneRestored m k b u s w o
-  one-by-rows u low p = one-restored m k b whole (first-set m b (bench-now m b w whole) p) (λ r valid same l i hl hi.
-      row-of-one m k big few (lane m b s l) (lane m b r l) (valid .lanes l hl) u 129 (λ e. absurd (omega (arith, few, few-rows)))
-      (λ x t hx ht ne _. same l x t hl hx ht ne) low (omega (arith, few, few-rows)) i hi)
-
-  pub one-by-diagonals : (u : ℕ) {o : List ℕ} → u ≡ k + 1
-      → Lined (m - 1) b 0 w o (λ r l. diagonalLeft g u 129 s (m - 1) l ⊕ diagonalLeft g u 129 s ((r + 0) % m) l) → OneRestored m k b u s w o
-  one-by-diagonals u is p = one-restored m k b whole (first-set m b (bench-now m b w whole) p) (λ r valid same l i hl hi.
-      let a = lane m b r l in
-      let d : (i : ℕ) → i < m → diagonalLeft g u 129 s i l ≡ S m k a ⊕ real m a i (k + 1) =
-      d-first m k big few (lane m b s l) a (valid .lanes l hl) u 129 (λ e. absurd (omega (arith, few, few-rows)))
-      (λ x t hx ht ne _. same l x t hl hx ht ne) is (omega (arith, few, few-rows)) in
-      ap₂ _⊕_ (d (m - 1) (omega arith) ∙ ap (λ (x : ℕ). S m k a ⊕ x) (last-none a (k + 1)))
-      (ap (λ (j : ℕ). diagonalLeft g u 129 s j l) (whole-line (omega arith)) ∙ d i (omega arith) ∙ ap (λ (x : ℕ). S m k a ⊕ x) (real-in m a i (k + 1) hi))
-      ∙ by-S (S m k a) (a i (k + 1))
-      ∙ ap (a i) (sym is))
-
   -- ---- H and D
 
   pub h-d : {o : List ℕ} → Parted m b o (rowLeft g k (k + 1) s) (λ r l. diagonalLeft g k (k + 1) s (m - 1) l ⊕ diagonalLeft g k (k + 1) s ((r + 0) % m) l) → TwoRestored m k b k (k + 1) s w o
@@ -298,7 +311,7 @@ module _ (g : Grid) (s w : List ℕ) (ready : Bench g s (length w)) where
       let d : (i : ℕ) → i < m → diagonalLeft g k (k + 1) s i l ≡ S m k a ⊕ real m a i (k + 1) =
       d-second m k big few (lane m b s l) a (valid .lanes l hl) k (k + 1) ne agree (omega arith) (omega arith) in (
         row-of-one m k big few (lane m b s l) a (valid .lanes l hl) k (k + 1) ne agree (omega arith) (omega arith) i hi,
-        ap₂ _⊕_ (d (m - 1) (omega arith) ∙ ap (λ (x : ℕ). S m k a ⊕ x) (last-none a (k + 1)))
+        ap₂ _⊕_ (d (m - 1) (omega arith) ∙ ap (λ (x : ℕ). S m k a ⊕ x) (last-none m a (k + 1)))
             (ap (λ (j : ℕ). diagonalLeft g k (k + 1) s j l) (whole-line (omega arith)) ∙ d i (omega arith) ∙ ap (λ (x : ℕ). S m k a ⊕ x) (real-in m a i (k + 1) hi))
             ∙ by-S (S m k a) (a i (k + 1)),
       ))
@@ -316,7 +329,7 @@ module _ (g : Grid) (s w : List ℕ) (ready : Bench g s (length w)) where
       let d : (r : ℕ) → r < m → diagonalLeft g u k s ((r + u) % m) l ≡ S m k a ⊕ real m a r u =
       diagonal-of-one m k big few (lane m b s l) a (valid .lanes l hl) u k ne agree low (omega arith) in
       let there : diagonalLeft g u k s e l ≡ S m k a ⊕ 0 =
-      ap (λ (j : ℕ). diagonalLeft g u k s j l) is ∙ d (m - 1) (omega arith) ∙ ap (λ (x : ℕ). S m k a ⊕ x) (last-none a u) in
+      ap (λ (j : ℕ). diagonalLeft g u k s j l) is ∙ d (m - 1) (omega arith) ∙ ap (λ (x : ℕ). S m k a ⊕ x) (last-none m a u) in
       let first : diagonalLeft g u k s e l ⊕ diagonalLeft g u k s ((i + u) % m) l ≡ a i u =
       ap₂ _⊕_ there (d i (omega arith) ∙ ap (λ (x : ℕ). S m k a ⊕ x) (real-in m a i u hi)) ∙ by-S (S m k a) (a i u) in (
         first,
@@ -357,7 +370,7 @@ module _ (g : Grid) (s w : List ℕ) (ready : Bench g s (length w)) where
               (ap₂ _⊕_
               (c .inside l hl
               ∙ ap₂ _⊕_
-              (q .inside l hl ∙ d (m - 1) (omega arith) ∙ ap (λ (x : ℕ). S m k a ⊕ (real m a (back m (m - 1) u) u ⊕ x)) (last-none a (k + 1)))
+              (q .inside l hl ∙ d (m - 1) (omega arith) ∙ ap (λ (x : ℕ). S m k a ⊕ (real m a (back m (m - 1) u) u ⊕ x)) (last-none m a (k + 1)))
               (real-same m (lane m b w₂ l) (λ r t. F r l) (m - 1 - u) (λ h. second .first (m - 1 - u) l h hl) ∙ there))
               (ap (λ (j : ℕ). E j l) (whole-line (omega arith)) ∙ d i (omega arith) ∙ ap (λ (x : ℕ). S m k a ⊕ (real m a (back m i u) u ⊕ x)) (real-in m a i (k + 1) hi)))
               (real-same m (λ r t. F r l) a (back m i u) (λ h. first (back m i u) h))
@@ -398,7 +411,7 @@ module _ (g : Grid) (s w : List ℕ) (ready : Bench g s (length w)) where
       where
         mixed : (r : List ℕ) → Valid m k b r → SameButTwo m k b u v s r → Mixed m b (v - u) w₁ (λ i l. real m (lane m b r l) i u) (λ i l. real m (lane m b r l) i v)
         mixed r valid agrees = record {
-          last = λ l hl. last-none (lane m b r l) u;
+          last = λ l hl. last-none m (lane m b r l) u;
           first = λ i l hi hl.
               let a = lane m b r l in
               bench .first i l hi hl

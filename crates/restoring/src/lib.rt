@@ -5,13 +5,13 @@
 use lines::Columns;
 use lines::Grid;
 ghost use mathlib.Core.Path.{_≡_};
-ghost use Prim.Native.Nat.{_+_, _-_, _*_, _%_, _<_};
+ghost use Prim.Native.Nat.{_+_, _-_, _*_, _%_, _≤_, _<_};
 ghost use lib.ListN.{length, getD};
 ghost use Rattle.parity.specs.Xor.{_⊕_};
 ghost use Rattle.parity.specs.Sum.{sum};
 ghost use Rattle.parity.specs.Stripe.{lane};
 ghost use Rattle.cells.specs.Runs.{Put};
-ghost use Rattle.lines.specs.Lines.{real, span, Sized};
+ghost use Rattle.lines.specs.Lines.{real, span, Sized, Laid};
 ghost use Rattle.lines.specs.Rows.{Lined};
 ghost use Rattle.walk.specs.Walk.{Reaches};
 ghost use Rattle.restoring.specs.Restoring.{Bench, OneRestored, TwoRestored};
@@ -47,9 +47,10 @@ fn put_rows(half: &mut [u8], s: &[u8], g: Grid, u: usize, v: usize)
     sums::sum_half(half, s, g, 0, 0, lines::all_but(g, u, v));
 }
 
-// Column u is absent, and the others fit a valid stripe: the first half of the bench becomes column u of it, from the rows, or, of D, from the diagonals.
+// Column u is absent, and the others fit a valid stripe: the first half of the bench becomes column u of it, from the rows, or, of D, from the diagonals. A bench
+// of that half alone will do.
 pub fn restore_one(s: &[u8], bench: &mut [u8], g: Grid, u: usize)
-    requires { ⌜ Bench g (now s) (length (now bench)) × (u < g .k + 2) ⌝ }
+    requires { ⌜ Laid g (now s) × (g .column ≤ length (now bench)) × (u < g .k + 2) ⌝ }
     ensures { λ _. ⌜ OneRestored (g .m) (g .k) (g .b) u (now (s .entry)) (now (bench .entry)) (now (bench .exit)) ⌝ }
 {
     let c = g.column;

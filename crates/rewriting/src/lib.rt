@@ -63,9 +63,9 @@ fn rewrite_long(s: &mut [u8], g: Grid, u: usize)
     rewrite_in(&mut room[0..2 * g.b], s, g, u);
 }
 
-// Column u becomes that, where the other columns fit a valid stripe: it is restored to room for two columns, and copied.
+// Column u becomes that, where the other columns fit a valid stripe: it is restored to room for a column, and copied.
 fn rewrite_whole(room: &mut [u8], s: &mut [u8], g: Grid, u: usize)
-    requires { ⌜ (length (now room) ≡ 2 * g .column) × Fitting g (now s) u ⌝ }
+    requires { ⌜ (length (now room) ≡ g .column) × Fitting g (now s) u ⌝ }
     ensures { λ _. ⌜ Rewrote (g .m) (g .k) (g .b) u (now (s .entry)) (now (s .exit)) ⌝ }
 {
     let c = g.column;
@@ -80,8 +80,8 @@ fn rewrite_small(s: &mut [u8], g: Grid, u: usize)
     ensures { λ _. ⌜ Rewrote (g .m) (g .k) (g .b) u (now (s .entry)) (now (s .exit)) ⌝ }
 {
     let c = g.column;
-    let mut room = [0u8; 2048];
-    rewrite_whole(&mut room[0..2 * c], s, g, u);
+    let mut room = [0u8; 1024];
+    rewrite_whole(&mut room[0..c], s, g, u);
 }
 
 // Column u becomes that, with room for any column of short cells.
@@ -90,8 +90,8 @@ fn rewrite_short(s: &mut [u8], g: Grid, u: usize)
     ensures { λ _. ⌜ Rewrote (g .m) (g .k) (g .b) u (now (s .entry)) (now (s .exit)) ⌝ }
 {
     let c = g.column;
-    let mut room = [0u8; 32768];
-    rewrite_whole(&mut room[0..2 * c], s, g, u);
+    let mut room = [0u8; 16384];
+    rewrite_whole(&mut room[0..c], s, g, u);
 }
 
 // The other columns fit a valid stripe: column u becomes that of it. It is not read. Long cells are summed in their places; a column of short ones is restored

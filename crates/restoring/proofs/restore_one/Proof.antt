@@ -21,7 +21,7 @@ part-put-rows-end c = search needs
 put-rows-requires : tie.Need-put-rows-requires
 put-rows-requires c κs =
     let z = c .before .before .before .before .before in
-    record { laid = z .pre .0 .laid; whole = half-whole (now (z .args .bench)) 0 (z .args .g .column) (omega arith) (omega (arith, z .pre .0 .bench)) (omega arith) }
+    record { laid = z .pre .0; whole = half-whole (now (z .args .bench)) 0 (z .args .g .column) (omega arith) (omega (arith, z .pre .1)) (omega arith) }
 
 sub-put-diagonals : tie.Need-sub-put-diagonals
 sub-put-diagonals c = search needs
@@ -38,7 +38,7 @@ sub-put-diagonals-2 c = search needs
 put-diagonals-requires : tie.Need-put-diagonals-requires
 put-diagonals-requires c κs =
     let z = c .before .before .before .before .before .before in
-    (omega (arith, z .pre .0 .laid .sized .big), omega (arith, z .pre .0 .laid .sized .big), record { laid = z .pre .0 .laid; whole = half-whole (now (z .args .bench)) 0 (z .args .g .column) (omega arith) (omega (arith, z .pre .0 .bench)) (omega arith) })
+    (omega (arith, z .pre .0 .sized .big), omega (arith, z .pre .0 .sized .big), record { laid = z .pre .0; whole = half-whole (now (z .args .bench)) 0 (z .args .g .column) (omega arith) (omega (arith, z .pre .1)) (omega arith) })
 
 same-length : tie.Need-same-length
 same-length c = search needs
@@ -48,7 +48,7 @@ returns c =
     let z = c .before .before .before .before .before .before .before .before in
     let a = z .args in
     one-by-rows (a .g) (now (a .s)) (now (a .bench)) (z .pre .0) (a .u) (c .before .before .before .before .if1 .taken)
-    (lent-lined (now (a .bench)) (c .before .before .put-rows .last .0) 0 (a .g .column) (omega arith) (omega (arith, z .pre .0 .bench)) (omega (arith, column-is (a .g .m) (a .g .b) (a .g .column) (z .pre .0 .laid .sized))) (c .before .before .put-rows .ensures))
+    (lent-lined (now (a .bench)) (c .before .before .put-rows .last .0) 0 (a .g .column) (omega arith) (omega (arith, z .pre .1)) (omega (arith, column-is (a .g .m) (a .g .b) (a .g .column) (z .pre .0 .sized))) (c .before .before .put-rows .ensures))
 
 same-length-2 : tie.Need-same-length-2
 same-length-2 c = search needs
@@ -57,8 +57,8 @@ returns-2 : tie.Need-returns-2
 returns-2 c =
     let z = c .before .before .before .before .before .before .before .before .before in
     let a = z .args in
-    one-by-diagonals (a .g) (now (a .s)) (now (a .bench)) (z .pre .0) (a .u) (omega (arith, z .pre .1, c .before .before .before .before .before .if1 .left))
-    (lent-lined (now (a .bench)) (c .before .before .put-diagonals .last .0) 0 (a .g .column) (omega arith) (omega (arith, z .pre .0 .bench)) (omega (arith, column-is (a .g .m) (a .g .b) (a .g .column) (z .pre .0 .laid .sized))) (c .before .before .put-diagonals .ensures))
+    one-by-diagonals (a .g) (now (a .s)) (now (a .bench)) (z .pre .0) (a .u) (omega (arith, z .pre .2, c .before .before .before .before .before .if1 .left))
+    (lent-lined (now (a .bench)) (c .before .before .put-diagonals .last .0) 0 (a .g .column) (omega arith) (omega (arith, z .pre .1)) (omega (arith, column-is (a .g .m) (a .g .b) (a .g .column) (z .pre .0 .sized))) (c .before .before .put-diagonals .ensures))
 
 pub restore-one-spec : {M : Type 1} → statement M
 restore-one-spec =

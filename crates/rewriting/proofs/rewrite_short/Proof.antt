@@ -3,9 +3,6 @@ use borrow.Author.Needs.{needs}
 use Rattle.rewriting.proofs.rewrite_short.Statement.{statement}
 use Rattle.rewriting.proofs.rewrite_short.Tie as tie
 
-mul-rewrite-whole : tie.Need-mul-rewrite-whole
-mul-rewrite-whole c = search needs
-
 sub-rewrite-whole : tie.Need-sub-rewrite-whole
 sub-rewrite-whole c = search needs
 
@@ -30,7 +27,6 @@ pub rewrite-short-spec : {M : Type 1} → statement M
 rewrite-short-spec =
     tie.close
     (tie.spec
-    mul-rewrite-whole
     sub-rewrite-whole
     part-room-start
     part-room-end

@@ -13,7 +13,7 @@ use Rattle.rewriting.proofs.rewrite_whole.Tie as tie
 restore-one-requires : tie.Need-restore-one-requires
 restore-one-requires c κs =
     let p = c .before .before .before .before .pre in
-    (record { laid = p .1 .laid; bench = p .0 }, p .1 .inside)
+    (p .1 .laid, omega (arith, p .0), p .1 .inside)
 
 mul-at : tie.Need-mul-at
 mul-at c =

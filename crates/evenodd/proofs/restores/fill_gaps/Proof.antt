@@ -46,7 +46,8 @@ returns-2 c = (most-one (c .before .before .before .before .before .pre .few) (c
 restore-one-requires : tie.Need-restore-one-requires
 restore-one-requires c κs =
     let p = c .before .before .before .before .before .before .before .pre in
-    (laid-bench (laid (p .shape) (p .column) (p .stripe)) (p .column) (p .held), p .one (c .before .if3 .taken))
+    let z = laid (p .shape) (p .column) (p .stripe) in
+    (z, omega (arith, laid-bench z (p .column) (p .held) .bench), p .one (c .before .if3 .taken))
 
 same-length-2 : tie.Need-same-length-2
 same-length-2 c = c .before .before .restore-one .ensures .size

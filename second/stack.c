@@ -1,0 +1,418 @@
+/* Measures by painting how much stack each call of the C interface takes: stack [LIMIT]
+
+   Every call is made on a stack of its own, of which all words hold a pattern before. The lowest word that does not hold it afterwards
+   is the deepest that was written, and all from there to the stack's end is counted. So the frame of the harness is counted in, and so is
+   what memcpy and memset take; nothing is deducted. The line `harness` says what is counted where no call is made. Not counted is what a
+   dynamic linker takes when it looks for memcpy and memset at their first call: they are called before. Below the stack stands a page that
+   nobody may touch.
+
+   The calls are made at shapes, and with columns absent or wrong, that take every way through the library: cells on both sides of 128
+   bytes, columns on both sides of 1,024 bytes, stripes on both sides of 256 KiB, few columns and many, up to the largest stripe. Each call
+   must answer the number that the rules give.
+
+   It prints a line for each call: the most bytes, and the first shape and case that took them. With a LIMIT it fails if they are more
+   than LIMIT for any call; otherwise the calls at some of the shapes are then made again, each in a thread of 128 KiB. */
+#include <pthread.h>
+#include <stdint.h>
+#include <stdio.h>
+#include <stdlib.h>
+#include <string.h>
+#include <sys/mman.h>
+#include <ucontext.h>
+#include <unistd.h>
+#include "../include/oarwillow.h"
+
+enum { STACK = 256 << 10, THREAD = 128 << 10, COLUMNS = 129, LONGEST = 126 * 4096, NONE = 129 };
+enum call { HARNESS, ENCODE, CHECK, RESTORE, MEND, SHOW, CONTENTS, READ, GAPS, STRIPE_LENGTH, BENCH_LENGTH, CALLS };
+static const char *const names[CALLS] = {"harness",        "oarwillow_encode",        "oarwillow_check",       "oarwillow_restore",
+                                         "oarwillow_mend", "oarwillow_show",          "oarwillow_contents",    "oarwillow_read",
+                                         "oarwillow_gaps", "oarwillow_stripe_length", "oarwillow_bench_length"};
+
+/* A case: a call, what it is given, and the number that it must answer, or the length. */
+struct given {
+    enum call call;
+    const char *words;
+    size_t m, k, b, column;
+    size_t stripe_len, bench_len, image_len;
+    size_t changed[3]; /* places: a column's is made absent, another present */
+    size_t wrong[2];   /* columns: the first is wrong in row 0 and lane 0, the second in row 1 */
+    size_t lane;       /* and in this lane */
+    unsigned number;
+};
+static struct given asked, worst[CALLS];
+static size_t most[CALLS], cases;
+
+static uint8_t *stripe, *bench, *image, places[129];
+static size_t results[5];
+static unsigned answer;
+
+static void die(const char *what)
+{
+    fprintf(stderr, "stack: %s: %s at %zu,%zu,%zu, %s\n", what, names[asked.call], asked.m, asked.k, asked.b, asked.words);
+    exit(1);
+}
+
+/* The call itself. What it is given and what it writes stands elsewhere than on the stack. */
+static void perform(void)
+{
+    const struct given *g = &asked;
+    size_t *r = results;
+    switch (g->call) {
+    case ENCODE:
+        answer = oarwillow_encode(g->m, g->k, g->b, stripe, g->stripe_len);
+        break;
+    case CHECK:
+        answer = oarwillow_check(g->m, g->k, g->b, stripe, g->stripe_len, r, r + 1);
+        break;
+    case RESTORE:
+        answer = oarwillow_restore(g->m, g->k, g->b, places, stripe, g->stripe_len, bench, g->bench_len, r, r + 1, r + 2);
+        break;
+    case MEND:
+        answer = oarwillow_mend(g->m, g->k, g->b, stripe, g->stripe_len, r);
+        break;
+    case SHOW:
+        answer = oarwillow_show(g->m, g->k, g->b, places, stripe, g->stripe_len, bench, g->bench_len, g->column, r, r + 1, r + 2);
+        break;
+    case READ:
+        answer = oarwillow_read(image, g->image_len, stripe, g->stripe_len, places, r, r + 1, r + 2);
+        break;
+    case CONTENTS:
+        answer = oarwillow_contents(image, g->image_len, places, r, r + 1, r + 2);
+        break;
+    case STRIPE_LENGTH:
+        answer = (unsigned)oarwillow_stripe_length(g->m, g->k, g->b);
+        break;
+    case BENCH_LENGTH:
+        answer = (unsigned)oarwillow_bench_length(g->m, g->b);
+        break;
+    case GAPS:
+        answer = oarwillow_gaps(g->k, places, r, r + 1, r + 2, r + 3, r + 4);
+        break;
+    default:
+        answer = 0;
+    }
+}
+
+/* ---- the stack */
+
+static const uint64_t pattern = 0x9b3e71d5c86fa24d;
+static uint64_t *bottom, *end;
+
+static void paint(uint64_t *from)
+{
+    for (uint64_t *word = from; word < end; word++)
+        *word = pattern;
+}
+
+static void make_stack(void)
+{
+    size_t page = (size_t)sysconf(_SC_PAGESIZE);
+    uint8_t *p = mmap(NULL, page + STACK, PROT_READ | PROT_WRITE, MAP_PRIVATE | MAP_ANONYMOUS, -1, 0);
+    if (p == MAP_FAILED || mprotect(p, page, PROT_NONE) != 0)
+        die("no stack");
+    bottom = (uint64_t *)(void *)(p + page);
+    end = bottom + STACK / sizeof *bottom;
+    paint(bottom);
+}
+
+/* Makes the call on that stack. */
+static void on_stack(void)
+{
+    static ucontext_t here, there;
+    if (getcontext(&there) != 0)
+        die("no context");
+    there.uc_stack.ss_sp = bottom;
+    there.uc_stack.ss_size = STACK;
+    there.uc_link = &here;
+    makecontext(&there, perform, 0);
+    if (swapcontext(&here, &there) != 0)
+        die("no context");
+}
+
+/* How many bytes of it were written. It is painted again. */
+static size_t written(void)
+{
+    uint64_t *deepest = bottom;
+    while (deepest < end && *deepest == pattern)
+        deepest++;
+    paint(deepest);
+    return (size_t)(end - deepest) * sizeof *end;
+}
+
+static void *start(void *nothing)
+{
+    perform();
+    return nothing;
+}
+
+/* Makes the call in a thread of 128 KiB. */
+static void in_thread(void)
+{
+    pthread_attr_t small;
+    pthread_t thread;
+    if (pthread_attr_init(&small) != 0 || pthread_attr_setstacksize(&small, THREAD) != 0)
+        die("no small thread");
+    if (pthread_create(&thread, &small, start, NULL) != 0 || pthread_join(thread, NULL) != 0)
+        die("no thread");
+    pthread_attr_destroy(&small);
+}
+
+static void (*run)(void) = on_stack;
+
+/* ---- a case */
+
+static size_t column_length(void)
+{
+    return (asked.m - 1) * asked.b;
+}
+
+/* A case of that call at the shape of the last one: all columns present, and none wrong. */
+static void ask(enum call call, const char *words, unsigned number)
+{
+    size_t m = asked.m, k = asked.k, b = asked.b;
+    asked = (struct given){.call = call, .words = words, .m = m, .k = k, .b = b, .number = number};
+    asked.stripe_len = (k + 2) * column_length();
+    asked.bench_len = 2 * column_length();
+    for (size_t i = 0; i < 3; i++)
+        asked.changed[i] = NONE;
+    for (size_t i = 0; i < 2; i++)
+        asked.wrong[i] = NONE;
+}
+
+/* Makes columns wrong, or right again. */
+static void spoil(void)
+{
+    if (asked.wrong[0] != NONE)
+        stripe[asked.wrong[0] * column_length()] ^= 1;
+    if (asked.wrong[1] != NONE)
+        stripe[asked.wrong[1] * column_length() + asked.b + asked.lane] ^= 2;
+}
+
+/* Makes the call. The stripe is a valid one before and afterwards: a mend that is not refused makes it so. */
+static void measure(void)
+{
+    size_t bytes;
+    memset(places, 0, sizeof places);
+    memset(places, 1, asked.k + 2);
+    for (size_t i = 0; i < 3; i++)
+        if (asked.changed[i] != NONE)
+            places[asked.changed[i]] ^= 1;
+    spoil();
+    run();
+    bytes = written();
+    if (answer != asked.number)
+        die("another answer than the rules give");
+    if (asked.call != MEND || answer != 0)
+        spoil();
+    if (most[asked.call] < bytes) {
+        most[asked.call] = bytes;
+        worst[asked.call] = asked;
+    }
+    cases++;
+}
+
+/* Calls with columns wrong. */
+static void with_wrong(enum call call, const char *words, size_t first, size_t second, size_t lane, unsigned number)
+{
+    ask(call, words, number);
+    asked.wrong[0] = first;
+    asked.wrong[1] = second;
+    asked.lane = lane;
+    measure();
+}
+
+/* Calls with other places present, and perhaps a column wrong. */
+static void with_map(enum call call, const char *words, size_t x, size_t y, size_t z, size_t wrong, unsigned number)
+{
+    ask(call, words, number);
+    asked.changed[0] = x;
+    asked.changed[1] = y;
+    asked.changed[2] = z;
+    asked.wrong[0] = wrong;
+    measure();
+}
+
+static void put(size_t at, size_t bytes, size_t number)
+{
+    for (size_t i = 0; i < bytes; i++)
+        image[at + i] = (uint8_t)(number >> 8 * i);
+}
+
+/* Reads the image of the stripe without columns x and y, with so many bytes more, into a stripe of so many less; or its contents. */
+static void with_image(enum call call, const char *words, size_t x, size_t y, size_t more, size_t less, unsigned number)
+{
+    size_t c, at;
+    ask(call, words, number);
+    c = column_length();
+    at = 8 + 8 * (asked.k + 2);
+    put(0, 2, asked.m);
+    put(2, 2, asked.k);
+    put(4, 2, asked.b);
+    put(6, 2, 0);
+    for (size_t i = 0; i < asked.k + 2; i++) {
+        int present = i != x && i != y;
+        put(8 + 8 * i, 2, i);
+        put(10 + 8 * i, 2, (size_t)present);
+        put(12 + 8 * i, 4, present ? at : 0);
+        if (present) {
+            memcpy(image + at, stripe + i * c, c);
+            at += c;
+        }
+    }
+    asked.image_len = at + more;
+    asked.stripe_len -= less;
+    measure();
+}
+
+/* ---- the cases */
+
+/* Every column of the data gets bytes from a seed; the case is the encode that makes the stripe valid. */
+static void encode(size_t m, size_t k, size_t b)
+{
+    static uint64_t x = 88172645463325252u;
+    asked.m = m;
+    asked.k = k;
+    asked.b = b;
+    ask(ENCODE, "random data", 0);
+    for (size_t i = 0; i < k * column_length(); i += sizeof x) {
+        x ^= x << 13, x ^= x >> 7, x ^= x << 17;
+        memcpy(stripe + i, &x, sizeof x);
+    }
+    measure();
+}
+
+static void at_shape(size_t m, size_t k, size_t b)
+{
+    size_t last = k - 1, h = k, d = k + 1;
+    encode(m, k, b);
+
+    with_wrong(CHECK, "intact", NONE, NONE, 0, 0);
+    with_wrong(CHECK, "a data column wrong", 0, NONE, 0, 0);
+    with_wrong(CHECK, "D wrong", d, NONE, 0, 0);
+
+    with_map(RESTORE, "none absent", NONE, NONE, NONE, NONE, 0);
+    with_map(RESTORE, "none absent, H wrong", NONE, NONE, NONE, h, 5);
+    with_map(RESTORE, "none absent, D wrong", NONE, NONE, NONE, d, 5);
+    with_map(RESTORE, "a data column absent", 0, NONE, NONE, NONE, 0);
+    with_map(RESTORE, "the last data column absent", last, NONE, NONE, NONE, 0);
+    with_map(RESTORE, "H absent", h, NONE, NONE, NONE, 0);
+    with_map(RESTORE, "D absent", d, NONE, NONE, NONE, 0);
+    with_map(RESTORE, "a data column absent, H wrong", 0, NONE, NONE, h, 5);
+    with_map(RESTORE, "H absent, D wrong", h, NONE, NONE, d, 5);
+    with_map(RESTORE, "D absent, a data column wrong", d, NONE, NONE, 0, 5);
+    if (k > 1)
+        with_map(RESTORE, "two data columns absent", 0, last, NONE, NONE, 0);
+    with_map(RESTORE, "a data column and H absent", last, h, NONE, NONE, 0);
+    with_map(RESTORE, "a data column and D absent", last, d, NONE, NONE, 0);
+    with_map(RESTORE, "H and D absent", h, d, NONE, NONE, 0);
+    with_map(RESTORE, "three absent", 0, h, d, NONE, 4);
+
+    with_wrong(MEND, "intact", NONE, NONE, 0, 0);
+    with_wrong(MEND, "a data column wrong", 0, NONE, 0, 0);
+    with_wrong(MEND, "the last data column wrong", NONE, last, b - 1, 0);
+    with_wrong(MEND, "H wrong", h, NONE, 0, 0);
+    with_wrong(MEND, "D wrong", d, NONE, 0, 0);
+    with_wrong(MEND, "two wrong in one lane", 0, h, 0, 6);
+    if (b > 1)
+        with_wrong(MEND, "two wrong in two lanes", 0, h, b - 1, 6);
+
+    with_map(SHOW, "present", NONE, NONE, NONE, NONE, 0);
+    with_map(SHOW, "restored", 0, d, NONE, NONE, 0);
+    with_map(SHOW, "three absent", 0, h, d, NONE, 4);
+    with_map(GAPS, "none absent", NONE, NONE, NONE, NONE, 0);
+    with_map(GAPS, "three absent", 0, h, d, NONE, 0);
+
+    for (enum call call = CONTENTS; call <= READ; call++) {
+        with_image(call, "whole", NONE, NONE, 0, 0, 0);
+        with_image(call, "two absent", 0, h, 0, 0, 0);
+        with_image(call, "a byte too many", NONE, NONE, 1, 0, 8);
+    }
+    with_image(READ, "a stripe too short", NONE, NONE, 0, 1, 2);
+
+    ask(STRIPE_LENGTH, "a shape", (unsigned)((k + 2) * (m - 1) * b));
+    measure();
+    ask(BENCH_LENGTH, "a shape", (unsigned)(2 * (m - 1) * b));
+    measure();
+}
+
+/* What is refused for a number, a length or a place. */
+static void refusals(void)
+{
+    static const size_t faults[][4] = {{9, 3, 16, 1}, {5, 6, 16, 12}, {5, 3, 4097, 13}};
+    encode(5, 3, 16);
+    for (enum call call = ENCODE; call <= SHOW; call++) {
+        for (size_t i = 0; i < sizeof faults / sizeof *faults; i++) {
+            asked.m = faults[i][0], asked.k = faults[i][1], asked.b = faults[i][2];
+            ask(call, "a wrong number", (unsigned)faults[i][3]);
+            measure();
+        }
+        asked.m = 5, asked.k = 3, asked.b = 16;
+        ask(call, "a stripe too short", 2);
+        asked.stripe_len--;
+        measure();
+    }
+    for (enum call call = RESTORE; call <= SHOW; call += SHOW - RESTORE) {
+        ask(call, "a bench too short", 3);
+        asked.bench_len--;
+        measure();
+        with_map(call, "a place too many", 128, NONE, NONE, NONE, 9);
+    }
+    ask(SHOW, "no such column", 7);
+    asked.column = 5;
+    measure();
+    for (enum call call = CONTENTS; call <= READ; call++) {
+        ask(call, "no image", 8);
+        measure();
+    }
+    asked.m = 9;
+    for (enum call call = STRIPE_LENGTH; call <= BENCH_LENGTH; call++) {
+        ask(call, "a wrong number", 0);
+        measure();
+    }
+}
+
+int main(int count, char **words)
+{
+    static const size_t ms[] = {3, 5, 11, 31, 127}, ks[] = {1, 2, 3, 5, 8, 9, 10, 11, 31, 32, 33, 127};
+    static const size_t bs[] = {1, 8, 9, 16, 127, 128, 512, 4096};
+    size_t limit = count > 1 ? strtoul(words[1], NULL, 10) : SIZE_MAX;
+    int over = 0;
+    asked.words = "nothing";
+    stripe = malloc(COLUMNS * (size_t)LONGEST + 8);
+    image = malloc(8 + 8 * COLUMNS + COLUMNS * (size_t)LONGEST + 1);
+    bench = malloc(2 * LONGEST);
+    if (!stripe || !image || !bench)
+        die("no memory");
+    memset(stripe, 1, COLUMNS * (size_t)LONGEST);
+    memcpy(image, stripe, COLUMNS * (size_t)LONGEST);
+    make_stack();
+
+    ask(HARNESS, "no call", 0);
+    measure();
+    for (size_t x = 0; x < sizeof ms / sizeof *ms; x++)
+        for (size_t y = 0; y < sizeof ks / sizeof *ks; y++)
+            for (size_t z = 0; z < sizeof bs / sizeof *bs; z++)
+                if (ks[y] <= ms[x])
+                    at_shape(ms[x], ks[y], bs[z]);
+    refusals();
+    for (enum call call = HARNESS; call < CALLS; call++) {
+        const struct given *g = &worst[call];
+        printf("stack: %-23s %6zu bytes at %zu,%zu,%zu: %s\n", names[call], most[call], g->m, g->k, g->b, g->words);
+    }
+    printf("stack: %zu calls\n", cases);
+    for (enum call call = HARNESS; call < CALLS; call++)
+        if (limit < most[call]) {
+            fprintf(stderr, "stack: %s takes more than %zu bytes\n", names[call], limit);
+            over = 1;
+        }
+    if (over || limit == SIZE_MAX)
+        return over;
+
+    run = in_thread;
+    cases = 0;
+    for (size_t x = 0; x < sizeof ms / sizeof *ms; x++)
+        for (size_t z = 0; z < sizeof bs / sizeof *bs; z++)
+            at_shape(ms[x], ms[x] < 33 ? ms[x] : 33, bs[z]);
+    printf("stack: %zu calls in threads of %d KiB\n", cases, THREAD >> 10);
+    return 0;
+}
