@@ -11,10 +11,10 @@
 
 enum { M = 3, K = 3, B = 1, COLUMN = (M - 1) * B };
 
-/* Says which call was refused, and by what number. */
+/* Says which call was refused, by what number, and what that means. */
 static int refused(const char *call, uint8_t number)
 {
-    printf("%s: refused, %u\n", call, (unsigned)number);
+    printf("%s: refused, %u: %s\n", call, (unsigned)number, oarwillow_reason(number));
     return 1;
 }
 

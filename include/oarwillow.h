@@ -4,26 +4,71 @@
  * m - 1 cells. A stripe is k + 2 columns one after another: data 0 to k - 1, then H (number k), then D (number k + 1). A bench is two
  * columns. `places` is a presence map: one byte a place, place 0 first; 1 is present, any other byte is absent.
  *
- * Every call returns 0, or the number of the refusal:
- *    1  m is not an odd prime from 3 to 127    6  mend: no valid stripe differs in at most one column
- *    2  stripe length differs                  7  column number not below k + 2
- *    3  bench length differs                   8  image malformed
- *    4  three or more columns absent           9  map has a place at or above k + 2 present
- *    5  no valid stripe agrees with           12  k is 0 or above m
- *       every present column                  13  b is 0 or above 4,096
- * The first that applies, in the order given at each call. A refused call changes no byte of a stripe or bench. The numbers behind
- * pointers, and the places that oarwillow_read gives, are results: they are written on every call, also on a refused one.
- * 17, for a map whose two numbers are not what its places say, is never given here: in C a map is its places alone, and the count of
- * the present ones and the highest of them are made on the way in.
+ * Every call but the two lengths returns 0, or the number of the refusal (`enum oarwillow_refusal`): the first that applies, in the
+ * order given at each call. A refused call changes no byte of a stripe or bench. The numbers behind pointers, and the places that
+ * oarwillow_read and oarwillow_contents give, are results: they are written on every call, also on a refused one.
  *
- * What C must see to: each pointer is valid for the length that goes with it and not null, also where the length is 0; numbers behind
- * pointers are aligned; no two of a call's pointers overlap, save that buffers that are only read may be the same.
+ * What C must see to: each pointer is valid for the length that goes with it, and may be null where that length is 0; maps and the
+ * pointers to numbers are not null; numbers behind pointers are aligned as size_t is; no two of a call's pointers overlap, save that
+ * buffers that are only read may be the same. Bytes may stand at any address: stripes, benches, images and maps need no alignment.
+ *
+ * What a call needs: its stack, less than 64 KiB, so that a thread of 128 KiB is safe (as measured, mend takes 57 KiB, check and
+ * restore 40, each other call 2 at most); and memcpy, memmove and memset, which the compiler may call. It allocates nothing, has no
+ * globals, keeps no pointer after it has returned and makes no call of the system. So any number of threads may call at once, each with
+ * its own buffers, and a stripe that is only read may be shared.
+ *
+ * The largest stripe has 66,576,384 bytes (m = 127, k = 127, b = 4,096), and its bench 1,032,192.
+ *
+ * How to build, where it is installed: cc program.c $(pkg-config --cflags --libs oarwillow)
  */
 #ifndef OARWILLOW_H
 #define OARWILLOW_H
 
 #include <stddef.h>
 #include <stdint.h>
+
+#define OARWILLOW_VERSION "0.5.0"
+
+/* Why a call is refused. Other numbers are never given. */
+enum oarwillow_refusal {
+    OARWILLOW_DONE = 0,           /* not refused */
+    OARWILLOW_WRONG_M = 1,        /* m is not an odd prime from 3 to 127 */
+    OARWILLOW_STRIPE_LENGTH = 2,  /* stripe length differs */
+    OARWILLOW_BENCH_LENGTH = 3,   /* bench length differs */
+    OARWILLOW_AMBIGUOUS = 4,      /* three or more columns absent */
+    OARWILLOW_CONTRADICTED = 5,   /* at most two absent and no valid stripe agrees with every present column */
+    OARWILLOW_UNMENDABLE = 6,     /* mend: no valid stripe differs in at most one column */
+    OARWILLOW_NO_SUCH_COLUMN = 7, /* column number not below k + 2 */
+    OARWILLOW_MALFORMED = 8,      /* image malformed */
+    OARWILLOW_STRAY_COLUMN = 9,   /* map has a place at or above k + 2 present */
+    OARWILLOW_TOO_LONG = 10,      /* program input longer than 16,384 bytes; never from these calls */
+    OARWILLOW_WRONG_K = 12,       /* k is 0 or above m */
+    OARWILLOW_WRONG_B = 13,       /* b is 0 or above 4,096 */
+    OARWILLOW_LYING_MAP = 17      /* map's two numbers are not what its places say; never from these calls, for in C a map is its places
+                                     alone, and its two numbers are made on the way in */
+};
+
+/* The reason that a number stands for, in words; of a number that is never given it says so. */
+static inline const char *oarwillow_reason(uint8_t number)
+{
+    switch (number) {
+    case OARWILLOW_DONE: return "not refused";
+    case OARWILLOW_WRONG_M: return "m is not an odd prime from 3 to 127";
+    case OARWILLOW_STRIPE_LENGTH: return "stripe length differs";
+    case OARWILLOW_BENCH_LENGTH: return "bench length differs";
+    case OARWILLOW_AMBIGUOUS: return "three or more columns absent";
+    case OARWILLOW_CONTRADICTED: return "no valid stripe agrees with every present column";
+    case OARWILLOW_UNMENDABLE: return "no valid stripe differs in at most one column";
+    case OARWILLOW_NO_SUCH_COLUMN: return "no such column";
+    case OARWILLOW_MALFORMED: return "image malformed";
+    case OARWILLOW_STRAY_COLUMN: return "map has a place past the columns present";
+    case OARWILLOW_TOO_LONG: return "program input longer than 16,384 bytes";
+    case OARWILLOW_WRONG_K: return "k is 0 or above m";
+    case OARWILLOW_WRONG_B: return "b is 0 or above 4,096";
+    case OARWILLOW_LYING_MAP: return "map's two numbers are not what its places say";
+    default: return "a number that is never given";
+    }
+}
 
 #ifdef __cplusplus
 extern "C" {
