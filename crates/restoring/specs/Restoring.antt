@@ -3,7 +3,7 @@
 --   Bench g s n                a stripe of that grid, and a bench of n bytes
 --   SameBut m k b u s r        r has what s has in every column but u
 --   SameButTwo m k b u u′ s r  the same of every column but u and u′
---   OneRestored …              w became v: its first half is column u, its second half is as it was
+--   OneRestored …              w became v: its first half is column u, its second half, if it has one, is as it was
 --   TwoRestored …              w became v: its halves are columns u and u′
 use mathlib.Core.Path.{_≡_}
 use mathlib.Core.Logic.{_≢_}
