@@ -26,7 +26,7 @@ fi
 kit=$(dirname "$(dirname "$(rt doc)")")
 clang=$kit/on/$(uname -m)/toolchain/bin/clang
 [ -x "$clang" ] || { echo "instructions.sh: no clang for $(uname -m) in the kit" >&2; exit 2; }
-(cd "$root" && rt staticlib oarwillow >"$out/staticlib.log" 2>&1) || { cat "$out/staticlib.log" >&2; exit 1; }
+OARWILLOW_ROOT=$root "$here/../install/build" x86-64 >&2
 
 # On x86-64 the compiler of this name is the machine's own. The other's headers stand in a folder of their own.
 gcc=x86_64-linux-gnu-gcc
@@ -39,7 +39,7 @@ for file in instructions own plain registers; do
 done
 program=$out/instructions
 # shellcheck disable=SC2086
-$gcc -static $objects "$root/target/staticlib/liboarwillow.a" -o "$program"
+$gcc -static $objects "$root/target/install/x86-64/liboarwillow.a" -o "$program"
 
 # Runs the program and prints how many instructions that took.
 counted() { # WORDS

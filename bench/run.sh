@@ -24,18 +24,15 @@ kit=$(dirname "$(dirname "$(rt doc)")")
 clang=$kit/on/$machine/toolchain/bin/clang
 [ -x "$clang" ] || { echo "run.sh: no clang for $machine in the kit" >&2; exit 2; }
 
-archive=$root/target/staticlib/liboarwillow.a
+cpu=$(echo "$machine" | tr _ -)
+library=$root/target/install/$cpu/liboarwillow.a
 if [ -n "${OARWILLOW_OBJECT:-}" ]; then
     library=$OARWILLOW_OBJECT
     label="$OARWILLOW_OBJECT, given by hand (not the shipped object)"
-elif [ "$machine" != x86_64 ]; then
-    library=$out/native.o
-    "$here/recompile.sh" "$machine" "$library"
-    label="native recompilation of the same module, not the shipped object"
 else
-    (cd "$root" && rt staticlib oarwillow >"$out/staticlib.log") || { cat "$out/staticlib.log" >&2; exit 1; }
-    library=$archive
+    OARWILLOW_ROOT=$root "$here/../install/build" "$cpu" >&2
     label="liboarwillow.a, the shipped object"
+    [ "$cpu" = x86-64 ] || label="native recompilation of the same module, not the shipped object"
 fi
 
 jerasure=$(dirname "$(dpkg -L libjerasure-dev | grep '/liberation.h$')")

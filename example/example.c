@@ -1,7 +1,8 @@
 /* A small stripe from C: encode it, lose two columns, restore them, and print every column from where show says that it lies.
  *
- *    rt staticlib oarwillow
- *    cc example/example.c -Iinclude target/staticlib/liboarwillow.a -o target/example && target/example
+ *    make install PREFIX=DIR
+ *    export PKG_CONFIG_PATH=DIR/lib/pkgconfig
+ *    cc example/example.c $(pkg-config --cflags --libs oarwillow) -o target/example && target/example
  */
 #include <stdio.h>
 #include <string.h>
