@@ -14,6 +14,7 @@ for package in gcc libc6-dev libisal-dev libjerasure-dev libgf-complete-dev; do
     dpkg -s "$package" >/dev/null 2>&1 || missing="$missing $package"
 done
 if [ -n "$missing" ]; then
+    echo "run.sh: installs what is missing, by Debian's packages:$missing" >&2
     apt-get update >/dev/null
     # shellcheck disable=SC2086
     apt-get install -y $missing >/dev/null

@@ -44,8 +44,8 @@ enum oarwillow_refusal {
     OARWILLOW_TOO_LONG = 10,      /* program input longer than 16,384 bytes; never from these calls */
     OARWILLOW_WRONG_K = 12,       /* k is 0 or above m */
     OARWILLOW_WRONG_B = 13,       /* b is 0 or above 4,096 */
-    OARWILLOW_LYING_MAP = 17      /* map's two numbers are not what its places say; never from these calls, for in C a map is its places
-                                     alone, and its two numbers are made on the way in */
+    OARWILLOW_LYING_MAP = 17      /* map lies: its two numbers are not what its places say; never from these calls, for in C a map is
+                                     its places alone, and its two numbers are made on the way in */
 };
 
 /* The reason that a number stands for, in words; of a number that is never given it says so. */
@@ -59,13 +59,13 @@ static inline const char *oarwillow_reason(uint8_t number)
     case OARWILLOW_AMBIGUOUS: return "three or more columns absent";
     case OARWILLOW_CONTRADICTED: return "no valid stripe agrees with every present column";
     case OARWILLOW_UNMENDABLE: return "no valid stripe differs in at most one column";
-    case OARWILLOW_NO_SUCH_COLUMN: return "no such column";
+    case OARWILLOW_NO_SUCH_COLUMN: return "column number not below k + 2";
     case OARWILLOW_MALFORMED: return "image malformed";
-    case OARWILLOW_STRAY_COLUMN: return "map has a place past the columns present";
+    case OARWILLOW_STRAY_COLUMN: return "map has a place at or above k + 2 present";
     case OARWILLOW_TOO_LONG: return "program input longer than 16,384 bytes";
     case OARWILLOW_WRONG_K: return "k is 0 or above m";
     case OARWILLOW_WRONG_B: return "b is 0 or above 4,096";
-    case OARWILLOW_LYING_MAP: return "map's two numbers are not what its places say";
+    case OARWILLOW_LYING_MAP: return "map lies: its two numbers are not what its places say";
     default: return "a number that is never given";
     }
 }
