@@ -11,7 +11,7 @@ cd "$(dirname "$0")/.."
 tools_wanted=build
 source install/tools
 source install/lock
-echo "demo.sh: proves and builds the program first, if that was not done: about 6 minutes on two cores" >&2
+echo "demo.sh: proves and builds the program first, if that was not done: about 5 minutes on two cores" >&2
 cpu=$(uname -m)
 cpu=${cpu//_/-}
 install/build "$cpu" >&2
