@@ -298,9 +298,6 @@ module _ (g : Grid) (s w : List ℕ) (ready : Bench g s (length w)) where
   few : k ≤ m
   few = ready .laid .few
 
-  few-rows : m ≤ 127
-  few-rows = ready .laid .sized .few
-
   -- ---- H and D
 
   pub h-d : {o : List ℕ} → Parted m b o (rowLeft g k (k + 1) s) (λ r l. diagonalLeft g k (k + 1) s (m - 1) l ⊕ diagonalLeft g k (k + 1) s ((r + 0) % m) l) → TwoRestored m k b k (k + 1) s w o
