@@ -1,12 +1,13 @@
 -- Laws of lines: the row of a line, one column more, and the bytes that lines depend on.
 --   up-around, up-straight   the row above, as the code finds it
 --   back-none, back-back     no row up; one step up after another
+--   row-down                 the walk of a diagonal: down by one at each column, and from 0 to m - 1, is row i - t modulo m in column t
 --   real-in, real-out        rows below m - 1 are the lane's, the others zero
 --   span-none, span-more, span-join, span-line   a span of no columns, of one column more, of the columns of two, and from column 0 on
 --   real-same, span-agree    a cell of a column, and one of another column that is the same; a span depends on the bytes of its own columns alone
 --   line-but                 a line is what is left of it without column u, and the byte in column u
 --   column-is, column-most, cell-room   a cell lies within its column, and a column is not long
---   slant-in, slant-next, row-next     what a slant adds up to, column by column
+--   slant-in, slant-next     what a slant adds up to, column by column
 use mathlib.Core.Path.{_≡_, sym, ap, ap₂, _∙_, subst}
 use Prim.Native.Nat.{ℕ, suc, _+_, _*_, _-_, _%_, _≤_, _<_}
 use native.Mathlib.Nat.{mod-lt, mod-eq-of-lt, add-mod-right, mod-add-mod, mul-le-mul, mul-le-mul-left, le-refl, le-trans}
@@ -47,6 +48,15 @@ back-back m i x y h =
 pub back-lt : (m i x : ℕ) → 0 < m → back m i x < m
 unfolding back
 back-lt m i x h = mod-lt (i + (m - x)) h
+
+-- the row of diagonal i in column t is i - t modulo m; in the next column it is one less, and m - 1 where it was 0
+pub row-down : (m i t x : ℕ) → t < m → (back m i t ≡ 0 → x ≡ m - 1) → (0 < back m i t → x ≡ back m i t - 1) → x ≡ back m i (t + 1)
+row-down m i t x h jump down =
+    let r : ℕ = back m i t in
+    by-order (x ≡ back m r 1) r 1
+    (λ z. let e : r + m - 1 ≡ m - 1 = omega arith in jump (omega arith) ∙ sym e ∙ up-around m 1 r z (omega arith))
+    (λ z. down (omega arith) ∙ up-straight m 1 r z (back-lt m i t (omega arith)))
+    ∙ back-back m i t 1 (omega arith)
 
 module _ (m : ℕ) (a : Lane) where
   pub real-in : (r t : ℕ) → r < m - 1 → real m a r t ≡ a r t
@@ -101,10 +111,6 @@ module _ (e y m : ℕ) (within : e * y ≤ m) where
 
   pub slant-next : (t : ℕ) → t < y → e * t + e ≤ m
   slant-next t h = let q : e * (t + 1) ≤ m = slant-in (t + 1) (omega arith) in omega (arith, q)
-
--- the row of a line, one column on
-pub row-next : (m i e t : ℕ) → e * t + e ≤ m → back m (back m i (e * t)) e ≡ back m i (e * (t + 1))
-row-next m i e t h = back-back m i (e * t) e h ∙ ap (back m i) (omega arith)
 
 -- ---- two lanes that have the same bytes in some columns
 

@@ -1,6 +1,7 @@
 -- Laws of places: places listed one after another, what their cells add up to, and lanes with nothing in some columns.
 --   listed-one, listed-none, listed-then   one place more, none, and some after others
 --   listed-same, listed-ends, listed-most   the same cells by another name, within more bytes, and fewer than might be
+--   listed-first, listed-column            the cells of a line in no column, and in one column more
 --   total-none, total-more                 no place, and one more
 --   total-part, within-part                the first n places, lent as a part of `at`
 --   window-start, window-first, window-next              a line over the first columns has its end, over others it has not
@@ -26,13 +27,14 @@ use borrow.Author.Count.{below-more}
 use Rattle.parity.specs.Xor.{_⊕_}
 use Rattle.parity.specs.Sum.{sum}
 use Rattle.parity.specs.Equations.{Lane, back}
+use Rattle.parity.specs.Stripe.{lane}
 use Rattle.parity.proofs.Xor.{⊕-assoc, ⊕-zero, zero-⊕}
 use Rattle.parity.proofs.Sum.{sum-cong}
 use Rattle.cells.proofs.Parts.{part, part-at}
 use Rattle.lines.specs.declared.Columns.{Columns}
 use Rattle.lines.specs.declared.Grid.{Grid}
 use Rattle.lines.specs.Lines.{real, span, ended, Crosses}
-use Rattle.lines.specs.Places.{without, window, total, Within, Listed, Follows}
+use Rattle.lines.specs.Places.{without, window, total, Within, Listed, Follows, LineListed}
 use Rattle.lines.proofs.Lines.{span-none, span-more, span-join}
 
 -- ---- places one after another
@@ -97,6 +99,23 @@ listed-ends h p = record { size = p .size; least = p .least; most = p .most; sum
 
 pub listed-most : {b z n k i j : ℕ} {at v : List ℕ} {f : List ℕ → ℕ → ℕ} → i ≤ j → Listed b z n k i at v f → Listed b z n k j at v f
 listed-most h p = record { size = p .size; least = p .least; most = omega (arith, p .most); sums = p .sums; within = p .within }
+
+-- of those columns the ones below t
+abbrev pub up-to : Columns → ℕ → Columns
+up-to columns t = record { from = columns .from; to = t; u = columns .u; v = columns .v }
+
+module _ (g : Grid) (e i : ℕ) (columns : Columns) {n : ℕ} {at : List ℕ} where
+  pub listed-first : LineListed g e i (up-to columns (columns .from)) n n at at
+  listed-first = listed-none _ _ _ _ at _ (λ s l. span-none (g .m) (without (columns .u) (columns .v) (lane (g .m) (g .b) s l)) e i (columns .from))
+
+  pub listed-column : {x y t : ℕ} {p q : List ℕ} (r : ℕ) → columns .from ≤ t → r ≡ back (g .m) i (e * t) → LineListed g e i (up-to columns t) n x at p
+      → Listed (g .b) (t * g .column + g .column) x y 1 p q (λ s l. real (g .m) (without (columns .u) (columns .v) (lane (g .m) (g .b) s l)) r t)
+      → LineListed g e i (up-to columns (t + 1)) n y at q
+  listed-column {t = t} r order row so more =
+      let a : List ℕ → ℕ → Lane = λ s l. without (columns .u) (columns .v) (lane (g .m) (g .b) s l) in
+      let z : (t + 1) * g .column ≡ t * g .column + g .column = omega arith in
+      listed-same (listed-ends (omega (arith, z)) (listed-then (omega arith) so more)) (omega (arith, order)) (λ s l.
+      ap (λ (j : ℕ). span (g .m) (a s l) e i (columns .from) t ⊕ real (g .m) (a s l) j t) row ∙ span-more (g .m) (a s l) e i (columns .from) t)
 
 -- ---- the first n places, lent
 

@@ -1,4 +1,5 @@
 -- Lines of cells in a byte lane, as the loops go along them.
+--   ahead m r n         r + n modulo m: from row r as many rows on as `back` goes back
 --   real m a r t        the byte in row r of column t; row m - 1 is zero
 --   line m a e i n      the sum of line i over the first n columns: with slant e = 0 it is row i, with e = 1 diagonal i
 --   span m a e i x y    the same over the columns from x up to y: the sum over all below y without that over all below x
@@ -9,7 +10,7 @@
 use mathlib.Core.Path.{_≡_}
 use mathlib.Core.Bool.{cond}
 use mathlib.Core.List.{List}
-use Prim.Native.Nat.{ℕ, _+_, _-_, _*_, _≤_, _<_}
+use Prim.Native.Nat.{ℕ, _+_, _-_, _*_, _%_, _≤_, _<_}
 use lib.Dec.{ltb}
 use lib.ListN.{length}
 use Rattle.parity.specs.Xor.{_⊕_}
@@ -17,6 +18,9 @@ use Rattle.parity.specs.Sum.{sum}
 use Rattle.parity.specs.Shape.{columnLength}
 use Rattle.parity.specs.Equations.{Lane, back}
 use Rattle.lines.specs.declared.Grid.{Grid}
+
+abbrev pub ahead : ℕ → ℕ → ℕ → ℕ
+ahead m r n = (r + n) % m
 
 unfoldable pub real : ℕ → Lane → ℕ → ℕ → ℕ
 real m a r t = cond (ltb r (m - 1)) (a r t) 0

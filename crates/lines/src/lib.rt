@@ -1,15 +1,15 @@
-// Lines of cells in a stripe, and where their cells stand. A row goes straight across the columns (slant 0), a diagonal one row up from
-// column to column (slant 1); from row 0 it goes on to row m - 1, which is imaginary and zero. A line ends in a parity column: a row with
-// H's cell in that row, a diagonal with D's cell in the row of its number.
+// Lines of cells in a stripe, and where their cells stand. A row goes straight across the columns (slant 0). A diagonal (slant 1) begins in the row of
+// its number; its row goes down by one at each column, and jumps from 0 to m - 1, which is imaginary and zero. A line ends in a parity column: a row with
+// H's cell in that row, a diagonal with D's cell in the row of its number. Row 0 stands at the top, so a row that goes down by one is the row above.
 ghost use mathlib.Core.Path.{_≡_};
-ghost use Prim.Native.Nat.{_+_, _*_, _-_, _%_, _≤_, _<_};
+ghost use Prim.Native.Nat.{_+_, _*_, _-_, _≤_, _<_};
 ghost use lib.ListN.{length, getD};
 ghost use Rattle.parity.specs.Xor.{_⊕_};
 ghost use Rattle.parity.specs.Equations.{back};
 ghost use Rattle.parity.specs.Stripe.{lane};
 ghost use Rattle.cells.specs.Runs.{Added};
-ghost use Rattle.lines.specs.Lines.{real, span, Sized, Crosses};
-ghost use Rattle.lines.specs.Places.{without, window, total, Within, Listed, Follows};
+ghost use Rattle.lines.specs.Lines.{ahead, real, Sized};
+ghost use Rattle.lines.specs.Places.{without, window, total, Within, Listed, Follows, LineListed, RoomForLine};
 ghost use Rattle.lines.specs.Rows.{Lined};
 
 // The numbers of a shape, and the bytes of a column.
@@ -52,7 +52,18 @@ pub fn part_of(columns: Columns, from: usize, to: usize) -> Columns
     }
 }
 
-// The row that is `up` rows above row r, modulo m.
+// The walk of a diagonal, from one column to the next: the row goes down by one, and jumps from 0 to m - 1.
+fn down_by_one(m: usize, r: usize) -> usize
+    requires { ⌜ r < m ⌝ }
+    ensures { λ x. ⌜ (r ≡ 0 → x ≡ m - 1) × (0 < r → x ≡ r - 1) ⌝ }
+{
+    if r == 0 {
+        return m - 1;
+    }
+    r - 1
+}
+
+// The row that is `up` rows above row r: so many steps of `down_by_one` at once. It is row r - up, and m more where that is below 0.
 pub fn row_above(m: usize, r: usize, up: usize) -> usize
     requires { ⌜ (r < m) × (up ≤ m) × (m ≤ 127) ⌝ }
     ensures { λ x. ⌜ x ≡ back m r up ⌝ }
@@ -63,10 +74,10 @@ pub fn row_above(m: usize, r: usize, up: usize) -> usize
     r - up
 }
 
-// The row below row r, modulo m.
+// The row below row r, the step the other way: the row goes up by one, and jumps from m - 1 to 0.
 pub fn row_below(m: usize, r: usize) -> usize
     requires { ⌜ (r < m) × (m ≤ 127) ⌝ }
-    ensures { λ x. ⌜ x ≡ (r + 1) % m ⌝ }
+    ensures { λ x. ⌜ x ≡ ahead m r 1 ⌝ }
 {
     if r + 1 < m {
         return r + 1;
@@ -122,7 +133,39 @@ pub fn add_place_but(
     add_place(at, n, g, t, r)
 }
 
-// Puts the places of the cells that line i has in those columns after the first n places of `at`. How many there are then.
+// Puts the places of the cells that row i has in those columns after the first n places of `at`. How many there are then.
+fn add_row_places(at: &mut [usize], n: usize, g: Grid, i: usize, columns: Columns) -> usize
+    requires { ⌜ RoomForLine g 0 i columns n (length (now at)) ⌝ }
+    ensures { λ x. ⌜ LineListed g 0 i columns n x (now (at .entry)) (now (at .exit)) ⌝ }
+{
+    let to = columns.to;
+    let mut x = n;
+    for t in columns.from..to {
+        x = add_place_but(at, x, g, t, i, columns.u, columns.v);
+    }
+    x
+}
+
+// Puts the places of the cells that diagonal i has in those columns after the first n places of `at`: the row goes down by one at each column, and jumps
+// from 0 to m - 1. How many there are then.
+fn add_diagonal_places(at: &mut [usize], n: usize, g: Grid, i: usize, columns: Columns) -> usize
+    requires { ⌜ RoomForLine g 1 i columns n (length (now at)) ⌝ }
+    ensures { λ x. ⌜ LineListed g 1 i columns n x (now (at .entry)) (now (at .exit)) ⌝ }
+{
+    let m = g.m;
+    let from = columns.from;
+    let to = columns.to;
+    let mut x = n;
+    // The start row: diagonal i is in row i of column 0, and goes down by one at each of the `from` columns before these.
+    let mut r = row_above(m, i, from);
+    for t in from..to {
+        x = add_place_but(at, x, g, t, r, columns.u, columns.v);
+        r = down_by_one(m, r);
+    }
+    x
+}
+
+// Puts the places of the cells that line i has in those columns after the first n places of `at`: a row's, or a diagonal's. How many there are then.
 pub fn add_places(
     at: &mut [usize],
     n: usize,
@@ -131,19 +174,13 @@ pub fn add_places(
     i: usize,
     columns: Columns,
 ) -> usize
-    requires { ⌜ (n + (columns .to - columns .from) ≤ length (now at)) × Sized (g .m) (g .b) (g .column) × Crosses (g .m) (g .column) (columns .to * g .column) slant i (columns .from) (columns .to) ⌝ }
-    ensures { λ x. ⌜ Listed (g .b) (columns .to * g .column) n x (columns .to - columns .from) (now (at .entry)) (now (at .exit)) (λ s l. span (g .m) (without (columns .u) (columns .v) (lane (g .m) (g .b) s l)) slant i (columns .from) (columns .to)) ⌝ }
+    requires { ⌜ RoomForLine g slant i columns n (length (now at)) ⌝ }
+    ensures { λ x. ⌜ LineListed g slant i columns n x (now (at .entry)) (now (at .exit)) ⌝ }
 {
-    let m = g.m;
-    let from = columns.from;
-    let to = columns.to;
-    let mut x = n;
-    let mut r = row_above(m, i, slant * from);
-    for t in from..to {
-        x = add_place_but(at, x, g, t, r, columns.u, columns.v);
-        r = row_above(m, r, slant);
+    if slant == 0 {
+        return add_row_places(at, n, g, i, columns);
     }
-    x
+    add_diagonal_places(at, n, g, i, columns)
 }
 
 // Puts the places of the cells that line i has in those columns first in `at`, and where the columns are the first of the stripe that of its end too.
@@ -170,8 +207,9 @@ pub fn add_cells(acc: &mut [u8], s: &[u8], at: &[usize], j: usize)
     }
 }
 
-// The m - 1 cells of w get column t of s, turned by `turn` rows, added: cell r gets row r - turn modulo m. That is two runs: the cells from
-// `turn` on get those from row 0 on, and the cells below turn - 1 those from row m - turn on. Cell turn - 1 gets the imaginary row, that is nothing.
+// The m - 1 cells of w get column t of s, turned by `turn` rows, added: cell r gets the row that is `turn` rows above, where a diagonal that was in row r is
+// after so many columns. That is two runs: the cells from `turn` on get those from row 0 on, and the cells below turn - 1 those from row m - turn on. Cell
+// turn - 1 gets the imaginary row, that is nothing.
 pub fn add_turned(w: &mut [u8], s: &[u8], g: Grid, t: usize, turn: usize)
     requires { ⌜ (g .column ≤ length (now w)) × (t * g .column + g .column ≤ length (now s)) × (turn < g .m) × Sized (g .m) (g .b) (g .column) ⌝ }
     ensures { λ _. ⌜ Lined (g .m - 1) (g .b) 0 (now (w .entry)) (now (w .exit)) (λ r l. getD (now (w .entry)) (0 + (r * g .b + l)) 0 ⊕ real (g .m) (lane (g .m) (g .b) (now (s .entry)) l) (back (g .m) r turn) t) ⌝ }

@@ -11,7 +11,7 @@ ghost use Rattle.parity.specs.Xor.{_⊕_};
 ghost use Rattle.parity.specs.Sum.{sum};
 ghost use Rattle.parity.specs.Stripe.{lane};
 ghost use Rattle.cells.specs.Runs.{Put};
-ghost use Rattle.lines.specs.Lines.{real, span, Sized, Laid};
+ghost use Rattle.lines.specs.Lines.{ahead, real, span, Sized, Laid};
 ghost use Rattle.lines.specs.Rows.{Lined};
 ghost use Rattle.walk.specs.Walk.{Reaches};
 ghost use Rattle.restoring.specs.Restoring.{Bench, OneRestored, TwoRestored};
@@ -30,7 +30,7 @@ fn put_diagonal(half: &mut [u8], s: &[u8], g: Grid, d: usize, u: usize, v: usize
 // Every cell r of a half becomes what is left of diagonal r + shift modulo m without columns u and v, plus what is left of diagonal d.
 fn put_diagonals(half: &mut [u8], s: &[u8], g: Grid, d: usize, shift: usize, u: usize, v: usize)
     requires { ⌜ (d < g .m) × (shift < g .m) × Halved g (now s) (length (now half)) ⌝ }
-    ensures { λ _. ⌜ Lined (g .m - 1) (g .b) 0 (now (half .entry)) (now (half .exit)) (λ r l. diagonalLeft g u v (now (s .entry)) d l ⊕ diagonalLeft g u v (now (s .entry)) ((r + shift) % g .m) l) ⌝ }
+    ensures { λ _. ⌜ Lined (g .m - 1) (g .b) 0 (now (half .entry)) (now (half .exit)) (λ r l. diagonalLeft g u v (now (s .entry)) d l ⊕ diagonalLeft g u v (now (s .entry)) (ahead (g .m) r shift) l) ⌝ }
 {
     put_diagonal(half, s, g, d, u, v);
     sums::sum_half(half, s, g, 1, shift, lines::all_but(g, u, v));

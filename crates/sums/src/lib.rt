@@ -5,12 +5,12 @@ use lines::Columns;
 use lines::Grid;
 ghost use mathlib.Core.Path.{_≡_};
 ghost use mathlib.Core.Bool.{cond};
-ghost use Prim.Native.Nat.{_+_, _*_, _-_, _%_, _≤_, _<_};
+ghost use Prim.Native.Nat.{_+_, _*_, _-_, _≤_, _<_};
 ghost use lib.Dec.{eqb};
 ghost use lib.ListN.{length, getD};
 ghost use Rattle.parity.specs.Xor.{_⊕_};
 ghost use Rattle.cells.specs.Runs.{Put};
-ghost use Rattle.lines.specs.Lines.{Sized};
+ghost use Rattle.lines.specs.Lines.{ahead, Sized};
 ghost use Rattle.lines.specs.Rows.{Lined};
 ghost use Rattle.sums.specs.Sums.{filled, Filling, begun, windowOf, cellOf, spanOf, Lining, OneLine, Turning, Half, HalfLines, WholeLines};
 
@@ -154,7 +154,7 @@ pub fn sum_line(
 // the last cell holds.
 fn lines_by_cells(half: &mut [u8], s: &[u8], g: Grid, slant: usize, shift: usize, columns: Columns)
     requires { ⌜ HalfLines g (now s) (length (now half)) slant shift columns ⌝ }
-    ensures { λ _. ⌜ Lined (g .m - 1) (g .b) 0 (now (half .entry)) (now (half .exit)) (λ r l. begun columns (now (half .entry)) ((g .m - 2) * g .b) (r * g .b) l ⊕ windowOf g (now (s .entry)) slant ((r + shift) % g .m) columns l) ⌝ }
+    ensures { λ _. ⌜ Lined (g .m - 1) (g .b) 0 (now (half .entry)) (now (half .exit)) (λ r l. begun columns (now (half .entry)) ((g .m - 2) * g .b) (r * g .b) l ⊕ windowOf g (now (s .entry)) slant (ahead (g .m) r shift) columns l) ⌝ }
 {
     let m = g.m;
     let b = g.b;
@@ -177,7 +177,7 @@ fn add_column(
     columns: Columns,
 )
     requires { ⌜ Turning g (now s) (length (now half)) slant shift t ⌝ }
-    ensures { λ _. ⌜ Lined (g .m - 1) (g .b) 0 (now (half .entry)) (now (half .exit)) (λ r l. getD (now (half .entry)) (0 + (r * g .b + l)) 0 ⊕ cellOf g (now (s .entry)) columns slant ((r + shift) % g .m) t l) ⌝ }
+    ensures { λ _. ⌜ Lined (g .m - 1) (g .b) 0 (now (half .entry)) (now (half .exit)) (λ r l. getD (now (half .entry)) (0 + (r * g .b + l)) 0 ⊕ cellOf g (now (s .entry)) columns slant (ahead (g .m) r shift) t l) ⌝ }
 {
     if t == columns.u {
         return;
@@ -192,7 +192,7 @@ fn add_column(
 // Every cell r of a column gets line r + shift modulo m over those columns added: column by column. For short cells.
 pub fn add_columns(half: &mut [u8], s: &[u8], g: Grid, slant: usize, shift: usize, columns: Columns)
     requires { ⌜ Half g (now s) (length (now half)) slant shift columns ⌝ }
-    ensures { λ _. ⌜ Lined (g .m - 1) (g .b) 0 (now (half .entry)) (now (half .exit)) (λ r l. getD (now (half .entry)) (0 + (r * g .b + l)) 0 ⊕ spanOf g (now (s .entry)) slant ((r + shift) % g .m) columns l) ⌝ }
+    ensures { λ _. ⌜ Lined (g .m - 1) (g .b) 0 (now (half .entry)) (now (half .exit)) (λ r l. getD (now (half .entry)) (0 + (r * g .b + l)) 0 ⊕ spanOf g (now (s .entry)) slant (ahead (g .m) r shift) columns l) ⌝ }
 {
     let to = columns.to;
     for t in columns.from..to {
@@ -222,7 +222,7 @@ fn lines_by_columns(
     columns: Columns,
 )
     requires { ⌜ HalfLines g (now s) (length (now half)) slant shift columns ⌝ }
-    ensures { λ _. ⌜ Lined (g .m - 1) (g .b) 0 (now (half .entry)) (now (half .exit)) (λ r l. begun columns (now (half .entry)) ((g .m - 2) * g .b) (r * g .b) l ⊕ windowOf g (now (s .entry)) slant ((r + shift) % g .m) columns l) ⌝ }
+    ensures { λ _. ⌜ Lined (g .m - 1) (g .b) 0 (now (half .entry)) (now (half .exit)) (λ r l. begun columns (now (half .entry)) ((g .m - 2) * g .b) (r * g .b) l ⊕ windowOf g (now (s .entry)) slant (ahead (g .m) r shift) columns l) ⌝ }
 {
     if columns.from != 0 {
         add_columns(half, s, g, slant, shift, columns);
@@ -238,7 +238,7 @@ fn lines_by_columns(
 // begins with what the last cell holds.
 pub fn sum_lines(half: &mut [u8], s: &[u8], g: Grid, slant: usize, shift: usize, columns: Columns)
     requires { ⌜ HalfLines g (now s) (length (now half)) slant shift columns ⌝ }
-    ensures { λ _. ⌜ Lined (g .m - 1) (g .b) 0 (now (half .entry)) (now (half .exit)) (λ r l. begun columns (now (half .entry)) ((g .m - 2) * g .b) (r * g .b) l ⊕ windowOf g (now (s .entry)) slant ((r + shift) % g .m) columns l) ⌝ }
+    ensures { λ _. ⌜ Lined (g .m - 1) (g .b) 0 (now (half .entry)) (now (half .exit)) (λ r l. begun columns (now (half .entry)) ((g .m - 2) * g .b) (r * g .b) l ⊕ windowOf g (now (s .entry)) slant (ahead (g .m) r shift) columns l) ⌝ }
 {
     if 128 <= g.b {
         lines_by_cells(half, s, g, slant, shift, columns);
@@ -250,7 +250,7 @@ pub fn sum_lines(half: &mut [u8], s: &[u8], g: Grid, slant: usize, shift: usize,
 // Every cell r of a column becomes what the last cell holds plus line r + shift modulo m, with its end, over those columns, which begin with column 0.
 pub fn sum_half(half: &mut [u8], s: &[u8], g: Grid, slant: usize, shift: usize, columns: Columns)
     requires { ⌜ WholeLines g (now s) (length (now half)) slant shift columns ⌝ }
-    ensures { λ _. ⌜ Lined (g .m - 1) (g .b) 0 (now (half .entry)) (now (half .exit)) (λ r l. getD (now (half .entry)) ((g .m - 2) * g .b + l) 0 ⊕ windowOf g (now (s .entry)) slant ((r + shift) % g .m) columns l) ⌝ }
+    ensures { λ _. ⌜ Lined (g .m - 1) (g .b) 0 (now (half .entry)) (now (half .exit)) (λ r l. getD (now (half .entry)) ((g .m - 2) * g .b + l) 0 ⊕ windowOf g (now (s .entry)) slant (ahead (g .m) r shift) columns l) ⌝ }
 {
     let end = columns.to;
     let mut t: usize = 0;
