@@ -58,6 +58,7 @@ fn add_lines(w: &mut [u8], s: &[u8], g: Grid, u: usize)
     sums::add_columns(w, s, g, 1, 0, data);
     sums::add_columns(w, s, g, 0, 0, ends);
     if u < k {
+        // The row that diagonal 0 has in column u: that of diagonal r is r further.
         let shift = lines::row_above(m, 0, u);
         sums::add_columns(w, s, g, 0, shift, rows);
     }

@@ -51,6 +51,7 @@ pub(crate) fn find_piece(at: &mut [usize], g: Grid, piece: Piece) -> usize
     let n = lines::find_line(at, g, 1, d, columns);
     if u < g.k {
         let m = g.m;
+        // The row that diagonal d has in column u.
         let r = lines::row_above(m, d, u);
         return find_row(at, n, g, r, columns);
     }

@@ -1,6 +1,6 @@
 -- Laws of lines: the row of a line, one column more, and the bytes that lines depend on.
---   up-around, up-straight   the row above, as the code finds it
---   back-none, back-back     no row up; one step up after another
+--   up-around, up-straight   the row after some steps of a diagonal, as the code finds it
+--   back-none, back-back     no step; some steps after others
 --   row-down                 the walk of a diagonal: down by one at each column, and from 0 to m - 1, is row i - t modulo m in column t
 --   real-in, real-out        rows below m - 1 are the lane's, the others zero
 --   span-none, span-more, span-join, span-line   a span of no columns, of one column more, of the columns of two, and from column 0 on

@@ -1,5 +1,5 @@
 -- Lines of cells in a byte lane, as the loops go along them.
---   ahead m r n         r + n modulo m: from row r as many rows on as `back` goes back
+--   ahead m r n         r + n modulo m, the other way than `back`, which is r - n
 --   real m a r t        the byte in row r of column t; row m - 1 is zero
 --   line m a e i n      the sum of line i over the first n columns: with slant e = 0 it is row i, with e = 1 diagonal i
 --   span m a e i x y    the same over the columns from x up to y: the sum over all below y without that over all below x

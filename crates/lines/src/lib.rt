@@ -1,5 +1,5 @@
 // Lines of cells in a stripe, and where their cells stand. A row goes straight across the columns (slant 0). A diagonal (slant 1) begins in the row of
-// its number; its row goes down by one at each column, and jumps from 0 to m - 1, which is imaginary and zero. A line ends in a parity column: a row with
+// its number; its row goes down by one at each column, and jumps from 0 to m - 1, the imaginary row, which is zero. A line ends in a parity column: a row with
 // H's cell in that row, a diagonal with D's cell in the row of its number. Row 0 stands at the top, so a row that goes down by one is the row above.
 ghost use mathlib.Core.Path.{_≡_};
 ghost use Prim.Native.Nat.{_+_, _*_, _-_, _≤_, _<_};
@@ -63,18 +63,18 @@ fn down_by_one(m: usize, r: usize) -> usize
     r - 1
 }
 
-// The row that is `up` rows above row r: so many steps of `down_by_one` at once. It is row r - up, and m more where that is below 0.
-pub fn row_above(m: usize, r: usize, up: usize) -> usize
-    requires { ⌜ (r < m) × (up ≤ m) × (m ≤ 127) ⌝ }
-    ensures { λ x. ⌜ x ≡ back m r up ⌝ }
+// Row r after so many steps of `down_by_one`, at once: r - steps, and m more where that is less than 0. In the picture it is so many rows above.
+pub fn row_above(m: usize, r: usize, steps: usize) -> usize
+    requires { ⌜ (r < m) × (steps ≤ m) × (m ≤ 127) ⌝ }
+    ensures { λ x. ⌜ x ≡ back m r steps ⌝ }
 {
-    if r < up {
-        return r + m - up;
+    if r < steps {
+        return r + m - steps;
     }
-    r - up
+    r - steps
 }
 
-// The row below row r, the step the other way: the row goes up by one, and jumps from m - 1 to 0.
+// The row below row r, and row 0 after row m - 1. Lines are counted so too: a line has the number of its row in column 0.
 pub fn row_below(m: usize, r: usize) -> usize
     requires { ⌜ (r < m) × (m ≤ 127) ⌝ }
     ensures { λ x. ⌜ x ≡ ahead m r 1 ⌝ }
@@ -156,7 +156,7 @@ fn add_diagonal_places(at: &mut [usize], n: usize, g: Grid, i: usize, columns: C
     let from = columns.from;
     let to = columns.to;
     let mut x = n;
-    // The start row: diagonal i is in row i of column 0, and goes down by one at each of the `from` columns before these.
+    // The start row: diagonal i is in row i of column 0, and takes a step for each of the `from` columns before these.
     let mut r = row_above(m, i, from);
     for t in from..to {
         x = add_place_but(at, x, g, t, r, columns.u, columns.v);
@@ -207,9 +207,9 @@ pub fn add_cells(acc: &mut [u8], s: &[u8], at: &[usize], j: usize)
     }
 }
 
-// The m - 1 cells of w get column t of s, turned by `turn` rows, added: cell r gets the row that is `turn` rows above, where a diagonal that was in row r is
-// after so many columns. That is two runs: the cells from `turn` on get those from row 0 on, and the cells below turn - 1 those from row m - turn on. Cell
-// turn - 1 gets the imaginary row, that is nothing.
+// The m - 1 cells of w get column t of s, turned by `turn` rows, added: cell r gets the row to which `turn` steps of a diagonal lead from row r. That is
+// two runs: the cells from `turn` on get those from row 0 on, and the cells before cell turn - 1 those from row m - turn on. Cell turn - 1 gets the
+// imaginary row, that is nothing.
 pub fn add_turned(w: &mut [u8], s: &[u8], g: Grid, t: usize, turn: usize)
     requires { ⌜ (g .column ≤ length (now w)) × (t * g .column + g .column ≤ length (now s)) × (turn < g .m) × Sized (g .m) (g .b) (g .column) ⌝ }
     ensures { λ _. ⌜ Lined (g .m - 1) (g .b) 0 (now (w .entry)) (now (w .exit)) (λ r l. getD (now (w .entry)) (0 + (r * g .b + l)) 0 ⊕ real (g .m) (lane (g .m) (g .b) (now (s .entry)) l) (back (g .m) r turn) t) ⌝ }

@@ -109,6 +109,7 @@ fn turns(h: &[u8], d: &[u8], m: usize, u: usize) -> bool
     requires { ⌜ Amounts m (now h) (now d) × (u < m) ⌝ }
     ensures { λ r. ⌜ Whether r (TurnedAmounts m (λ i. getD (now (h .entry)) i 0) (λ i. getD (now (d .entry)) i 0) u) ⌝ }
 {
+    // The row that diagonal m - 1 has in column u, and in the loop the one that diagonal i has there.
     let last = lines::row_above(m, m - 1, u);
     for i in 0..m - 1 {
         let r = lines::row_above(m, i, u);

@@ -168,6 +168,7 @@ fn data_and_h(s: &[u8], bench: &mut [u8], g: Grid, u: usize)
     let end = 2 * c;
     let m = g.m;
     let k = g.k;
+    // Diagonal u is in row 0 of column u, so the one before it, u - 1, is in row m - 1 there.
     put_diagonals(&mut bench[0..c], s, g, lines::row_above(m, u, 1), u, u, k);
     put_rows(&mut bench[c..end], s, g, u, k);
     cells::add_within(bench, c, 0, c);

@@ -186,6 +186,7 @@ fn add_column(
         return;
     }
     let m = g.m;
+    // Line r + shift begins `shift` rows below cell r, and by column t a diagonal has gone down by t: cell r gets the row that is slant * t - shift above.
     lines::add_turned(half, s, g, t, lines::row_above(m, slant * t, shift));
 }
 

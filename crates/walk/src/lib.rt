@@ -26,7 +26,7 @@ fn turn(w: &mut [u8], g: Grid, from: usize, to: usize)
 
 // Parts the columns that stand mixed in the halves of w. It is another walk than a diagonal's (`lines::add_diagonal_places`), whose row goes down by one at
 // each column and jumps from 0 to m - 1: this one goes between two columns, delta apart. From row m - 1 on its row goes down by delta at each step, and
-// jumps from a row r below delta to r + m - delta.
+// where that would be less than 0 it jumps to m more: `row_above` does both.
 pub fn walk(w: &mut [u8], g: Grid, delta: usize)
     requires { ⌜ (length (now w) ≡ 2 * g .column) × Sized (g .m) (g .b) (g .column) × (delta ≤ g .m) × Reaches (g .m) delta ⌝ }
     ensures { λ _. ⌜ Walked (g .m) (g .b) delta (now (w .entry)) (now (w .exit)) ⌝ }

@@ -1,4 +1,4 @@
--- `lines::row_above` meets its contract: below row `up` the row wraps around, from there on it does not.
+-- `lines::row_above` meets its contract: a row that is less than `steps` wraps around, others do not.
 use Rattle.lines.proofs.Lines.{up-around, up-straight}
 use borrow.Author.Needs.{needs}
 use native.Mathlib.Omega.{arith}
@@ -13,11 +13,11 @@ sub-result c = search needs
 
 returns : tie.Need-returns
 returns c =
-    up-around (c .before .args .m) (c .before .args .up) (c .before .args .r) (c .if1 .taken) (omega arith)
+    up-around (c .before .args .m) (c .before .args .steps) (c .before .args .r) (c .if1 .taken) (omega arith)
 
 returns-2 : tie.Need-returns-2
 returns-2 c =
-    up-straight (c .before .args .m) (c .before .args .up) (c .before .args .r) (c .if1 .left) (omega arith)
+    up-straight (c .before .args .m) (c .before .args .steps) (c .before .args .r) (c .if1 .left) (omega arith)
 
 pub row-above-spec : {M : Type 1} → statement M
 row-above-spec = tie.close (tie.spec add-result sub-result returns returns-2)
