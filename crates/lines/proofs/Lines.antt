@@ -7,7 +7,7 @@
 --   real-same, span-agree    a cell of a column, and one of another column that is the same; a span depends on the bytes of its own columns alone
 --   line-but                 a line is what is left of it without column u, and the byte in column u
 --   column-is, column-most, cell-room   a cell lies within its column, and a column is not long
---   slant-in, slant-next     what a slant adds up to, column by column
+--   slant-next               what a slant adds up to, column by column
 use mathlib.Core.Path.{_≡_, sym, ap, ap₂, _∙_, subst}
 use Prim.Native.Nat.{ℕ, suc, _+_, _*_, _-_, _%_, _≤_, _<_}
 use native.Mathlib.Nat.{mod-lt, mod-eq-of-lt, add-mod-right, mod-add-mod, mul-le-mul, mul-le-mul-left, le-refl, le-trans}
@@ -106,7 +106,7 @@ module _ (m b c : ℕ) (z : Sized m b c) where
 
 -- what a slant adds up to, column by column
 module _ (e y m : ℕ) (within : e * y ≤ m) where
-  pub slant-in : (t : ℕ) → t ≤ y → e * t ≤ m
+  slant-in : (t : ℕ) → t ≤ y → e * t ≤ m
   slant-in t h = le-trans (mul-le-mul-left e h) within
 
   pub slant-next : (t : ℕ) → t < y → e * t + e ≤ m
