@@ -49,13 +49,13 @@ pub back-lt : (m i x : ℕ) → 0 < m → back m i x < m
 unfolding back
 back-lt m i x h = mod-lt (i + (m - x)) h
 
--- the row of diagonal i in column t is i - t modulo m; in the next column it is one less, and m - 1 where it was 0
-pub row-down : (m i t x : ℕ) → t < m → (back m i t ≡ 0 → x ≡ m - 1) → (0 < back m i t → x ≡ back m i t - 1) → x ≡ back m i (t + 1)
-row-down m i t x h jump down =
-    let r : ℕ = back m i t in
+-- diagonal i is in row i - t modulo m of column t; from there the step of the walk, down by one and from 0 to m - 1, leads to its row in the next column
+pub row-down : (m i t r x : ℕ) → t < m → r ≡ back m i t → (r ≡ 0 → x ≡ m - 1) × (0 < r → x ≡ r - 1) → x ≡ back m i (t + 1)
+row-down m i t r x h row step =
     by-order (x ≡ back m r 1) r 1
-    (λ z. let e : r + m - 1 ≡ m - 1 = omega arith in jump (omega arith) ∙ sym e ∙ up-around m 1 r z (omega arith))
-    (λ z. down (omega arith) ∙ up-straight m 1 r z (back-lt m i t (omega arith)))
+    (λ z. let e : r + m - 1 ≡ m - 1 = omega arith in step .0 (omega arith) ∙ sym e ∙ up-around m 1 r z (omega arith))
+    (λ z. step .1 z ∙ up-straight m 1 r z (omega (arith, row, back-lt m i t (omega arith))))
+    ∙ ap (λ (y : ℕ). back m y 1) row
     ∙ back-back m i t 1 (omega arith)
 
 module _ (m : ℕ) (a : Lane) where

@@ -1,6 +1,6 @@
 -- `lines::add_diagonal_places` meets its contract. The invariant: the diagonal's cells in the columns below t are listed, and r is its row in column t.
-use mathlib.Core.Path.{_≡_, sym, ap, _∙_, subst}
-use Prim.Native.Nat.{ℕ, _*_, _-_, _≤_, _<_}
+use mathlib.Core.Path.{_≡_, ap, _∙_, subst}
+use Prim.Native.Nat.{ℕ, _*_, _-_, _≤_}
 use denote.Ref.{now}
 use Rattle.parity.specs.Equations.{back}
 use Rattle.lines.specs.Places.{LineListed}
@@ -40,7 +40,7 @@ down-by-one-requires : tie.Need-down-by-one-requires Inv-loop μ-loop
 down-by-one-requires c κs =
     let z = c .before .before .before .before .before .before .before .before in
     let y = c .before .before .before .before .before .loop in
-    subst (λ (r : ℕ). r < z .args .g .m) (sym (y .inv .2)) (back-lt (z .args .g .m) (z .args .i) (y .t) (omega (arith, z .pre .1 .big)))
+    omega (arith, y .inv .2, back-lt (z .args .g .m) (z .args .i) (y .t) (omega (arith, z .pre .1 .big)))
 
 add-t : tie.Need-add-t Inv-loop μ-loop
 add-t c = search needs
@@ -54,11 +54,10 @@ loop-again c =
     let a = z .args in
     let y = c .before .before .before .before .before .before .loop in
     let h = c .before .before .before .before .before .loop-test .taken in
-    let row : y .r ≡ back (a .g .m) (a .i) (1 * y .t) = y .inv .2 ∙ ap (back (a .g .m) (a .i)) (omega arith) in
-    let step = c .down-by-one .ensures in (
+    let row : y .r ≡ back (a .g .m) (a .i) (1 * y .t) = y .inv .2 ∙ ap (back (a .g .m) (a .i)) (omega arith) in (
       omega arith,
       omega arith,
-      row-down (a .g .m) (a .i) (y .t) _ (omega (arith, z .pre .2 .within, h)) (λ e. step .0 (y .inv .2 ∙ e)) (λ l. step .1 (subst (λ (r : ℕ). 0 < r) (sym (y .inv .2)) l) ∙ ap (λ (r : ℕ). r - 1) (y .inv .2)),
+      row-down (a .g .m) (a .i) (y .t) (y .r) _ (omega (arith, z .pre .2 .within, h)) (y .inv .2) (c .down-by-one .ensures),
       listed-column (a .g) 1 (a .i) (a .columns) (y .r) (y .inv .0) row (y .inv .3) (c .before .before .before .add-place-but .ensures),
     )
 
