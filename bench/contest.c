@@ -16,29 +16,31 @@ static uint8_t *pools[POOLS], *copies;
 static void copy(const struct shape *p, uint8_t *slot) { memcpy(copies + (slot - pools[PACKED]), slot, p->k * p->col); }
 
 
-enum { FIRST = OWNS, MEMCPY = FIRST + OTHERS, OWN, RIVALS };
+enum { FIRST = OWNS, MEMCPY = FIRST + OTHERS, OWN, OWN_CHECK, RIVALS };
 #ifdef __x86_64__
 enum { PQ_TO_REACH = FIRST + PQ_SSE }; /* P+Q with the instructions that the library has too */
 #else
 enum { PQ_TO_REACH = FIRST + PQ };
 #endif
 static struct rival rivals[RIVALS] = {
-    [MEMCPY] = {"memcpy", PACKED, {copy, copy, copy, copy, copy}},
+    [MEMCPY] = {"memcpy", PACKED, {copy, copy, copy, copy, copy, copy, copy}},
     [OWN] = {"own-encode", PACKED, {0}}, /* main gives it the library's encode beside every other operation */
+    [OWN_CHECK] = {"own-check", PACKED, {0}}, /* and this the library's check beside INTACT */
 };
 
-/* The ratio that encode, check, restore and mend are to reach, hot; 0 where there is none. */
+/* The ratio that an operation is to reach, hot; 0 where there is none. */
 static double goal(const struct shape *p, enum op op, int rival) {
     int wide = p->b % 128 == 0;
     if (op == ENCODE && rival == PLAIN) return wide ? 1.2 : 0.75;
     if (op == ENCODE && rival == REGISTERS) return wide ? 0.9 : 0;
     if (op == ENCODE && rival == PQ_TO_REACH) return wide ? 1.0 : 0;
     if (op == TWO && rival == FIRST + EVENODD) return 2.0;
-    if (rival != OWN) return 0;
-    return op == CHECK ? (wide ? 0.8 : 0) : op == ONE ? 0.45 : op == TWO ? (wide && p->k >= 10 ? 0.8 : 0.5) : 0.3;
+    if (op == INTACT && rival == OWN_CHECK) return wide ? 0.97 : 0; /* 1, but for noise */
+    if (op == INTACT || rival != OWN) return 0;
+    return op == CHECK ? (wide ? 0.8 : 0) : op == ONE ? 0.45 : op == TWO ? (wide && p->k >= 10 ? 0.8 : 0.5) : wide ? 0.45 : 0;
 }
 
-static size_t slot_size(const struct shape *p, enum pool pool) { return (p->k + 4) * (pool == PACKED ? p->col : p->pitch) / 64 * 64 + 64; }
+static size_t slot_size(const struct shape *p, enum pool pool) { return (p->k + 4) * (pool == PADDED ? p->pitch : p->col) / 64 * 64 + 64; }
 
 /* Compares every operation that is timed with plain.c, on the first slots of the pools. */
 static void check_all(const struct shape *p) {
@@ -65,7 +67,7 @@ static double now(void) {
 /* Calls a contestant n times, each on the next slot of its pool, and gives the time of one call. */
 static double calls(const struct shape *p, int r, enum op op, int cold, size_t n) {
     static size_t next[POOLS];
-    enum pool pool = rivals[r].pool;
+    enum pool pool = op == LOCATE && r == OURS ? WRONG : rivals[r].pool;
     size_t size = slot_size(p, pool), slots = cold ? POOL / size : 1;
     double start = now();
     for (size_t i = 0; i < n; i++) rivals[r].run[op](p, pools[pool] + ++next[pool] % slots * size);
@@ -113,6 +115,7 @@ int main(int argc, char **argv) {
     }
     memcpy(rivals, owns, sizeof owns);
     for (int op = CHECK; op < OPS; op++) rivals[OWN].run[op] = owns[OURS].run[ENCODE];
+    rivals[OWN_CHECK].run[INTACT] = owns[OURS].run[CHECK];
     for (int s = 0; s < SHAPES; s++) {
         if (!asked(argc, argv, s)) continue;
         struct shape p = shape_of(shapes[s]);
@@ -120,7 +123,11 @@ int main(int argc, char **argv) {
         memcpy(rivals + FIRST, others, sizeof others);
         check_all(&p);
         fprintf(stderr, "%zu,%zu,%zu: bytes equal\n", p.m, p.k, p.b);
-        for (size_t i = 0, size = slot_size(&p, PACKED); i < POOL / size; i++) plain_encode(p.m, p.k, p.b, pools[PACKED] + i * size);
+        for (size_t i = 0, size = slot_size(&p, PACKED); i < POOL / size; i++) {
+            uint8_t *slot = pools[PACKED] + i * size, *wrong = pools[WRONG] + i * size;
+            plain_encode(p.m, p.k, p.b, slot);
+            memcpy(wrong, slot, size), spoil(&p, wrong);
+        }
         for (int op = 0; op < OPS; op++) {
             for (size_t i = 0, size = slot_size(&p, PADDED); op == CHECK && i < POOL / size; i++)
                 others[PQ].run[ENCODE](&p, pools[PADDED] + i * size); /* P+Q is to hold in the padded stripes */

@@ -11,15 +11,16 @@ void plain_restore(size_t m, size_t k, size_t b, size_t u, size_t v, const uint8
 void registers_encode(size_t m, size_t k, size_t b, uint8_t *stripe);
 void registers_check(size_t m, size_t k, size_t b, const uint8_t *stripe, size_t *rows, size_t *diagonals);
 
-enum op { ENCODE, CHECK, ONE, TWO, MEND, OPS };
+enum op { ENCODE, CHECK, ONE, TWO, INTACT, LOCATE, REWRITE, OPS };
 
 /* A shape with what follows from it. Columns lie `col` bytes apart in pool PACKED, as the library wants them, and `pitch` bytes apart
-   in pool PADDED, a multiple of 64, as ISA-L wants them. A slot of either is k+2 columns of a stripe and two of a bench. */
+   in pool PADDED, a multiple of 64, as ISA-L wants them. A slot of either is k+2 columns of a stripe and two of a bench. Pool WRONG is
+   PACKED with column w of each stripe wrong, for the library's LOCATE. */
 struct shape {
     size_t m, k, b, col, pitch;
-    size_t u, v, w; /* columns lost: u and v of TWO, w of ONE; w is the wrong one of MEND */
+    size_t u, v, w; /* columns lost: u and v of TWO, w of ONE; w is the wrong one of LOCATE, and the one of REWRITE */
 };
-enum pool { PACKED, PADDED, POOLS };
+enum pool { PACKED, PADDED, WRONG, POOLS };
 
 typedef void work(const struct shape *, uint8_t *slot);
 struct rival {
@@ -30,14 +31,16 @@ struct rival {
 
 /* own.c: the library and the code of plain.c and registers.c as contestants, and the shapes that are measured. `shape_of` also makes
    the presence maps for the shape. `own_check` takes a slot of random bytes and writes the valid stripe of its data columns, by
-   plain.c, to `good`; it compares what the contestants compute with that, and gives the name of one that is wrong, or null. */
+   plain.c, to `good`; it compares what the contestants compute with that, and gives the name of one that is wrong, or null. `spoil`
+   makes column w of a stripe wrong, one byte in every cell; done twice it makes it right again. */
 enum { SHAPES = 15 };
 extern const size_t shapes[SHAPES][3];
 extern const char *const op_name[OPS];
 struct shape shape_of(const size_t *s);
 enum { OURS, PLAIN, REGISTERS, OWNS };
 extern struct rival owns[OWNS];
-extern uint8_t refused; /* not 0 once the library has refused a call */
+extern uint8_t refused; /* not 0 once the library has refused a call, or located what is not so */
+work spoil;
 const char *own_check(const struct shape *, uint8_t *slot, uint8_t *good);
 
 /* rivals.c: codes of others. `rivals_prepare` makes their tables for a shape and clears the operations that they lack there;

@@ -43,6 +43,7 @@ int main(int argc, char **argv) {
             if (!strcmp(argv[2], op_name[op]) && !strcmp(argv[3], owns[r].name)) run = owns[r].run[op];
     if (!run) return 2;
     plain_encode(p.m, p.k, p.b, slot);
+    if (!strcmp(argv[2], op_name[LOCATE])) spoil(&p, slot);
     for (int n = atoi(argv[4]); n > 0; n--) run(&p, slot);
     return refused != 0;
 }

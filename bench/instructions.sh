@@ -88,7 +88,7 @@ echo "library:  liboarwillow.a, the shipped object"
 echo "compiler: $("$clang" --version | head -n 1), -O3, x86-64 baseline, of plain and registers"
 echo "counted:  by $(qemu-x86_64 --version | head -n 1), -cpu Nehalem"
 echo "x86-64 instructions of one call, and theirs divided by ours (above 1: ours takes fewer); - : no such operation there."
-echo "Those of mend are with making one byte wrong in every cell of a column."
+echo "intact is locate of a valid stripe, locate that of one with a byte wrong in every cell of a column; making it wrong is not counted."
 format='%-9s %-13s %11s %11s %11s %11s %11s\n'
 # shellcheck disable=SC2059
 printf "$format" '' m,k,b ours plain registers plain/ours regs/ours

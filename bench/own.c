@@ -7,7 +7,7 @@ const size_t shapes[SHAPES][3] = {
     {11, 10, 4096}, {17, 17, 4096}, {5, 5, 512},  {11, 10, 1000}, {7, 5, 100},   {13, 12, 64},  {11, 10, 16},    {61, 60, 4096},
     {127, 127, 512}, {11, 10, 1},   {5, 5, 4096}, {11, 10, 512},  {17, 17, 512}, {61, 60, 512}, {127, 127, 4096},
 };
-const char *const op_name[OPS] = {"encode", "check", "restore1", "restore2", "mend"};
+const char *const op_name[OPS] = {"encode", "check", "restore1", "restore2", "intact", "locate", "rewrite"};
 
 uint8_t refused;
 static uint8_t one_lost[129], two_lost[129];
@@ -22,11 +22,19 @@ static void our_restore(const struct shape *p, uint8_t *slot, const uint8_t *pla
 }
 static void our_one(const struct shape *p, uint8_t *slot) { our_restore(p, slot, one_lost); }
 static void our_two(const struct shape *p, uint8_t *slot) { our_restore(p, slot, two_lost); }
-/* The column is made wrong, one byte in every cell, within the time measured: the first byte, in the next cell the second, ... */
-static void our_mend(const struct shape *p, uint8_t *slot) {
+/* The first byte of the first cell, in the next cell the second, ... */
+void spoil(const struct shape *p, uint8_t *slot) {
     for (size_t i = 0; i < p->m - 1; i++) slot[p->w * p->col + i * p->b + i % p->b] ^= 0x5a;
-    refused |= oarwillow_mend(p->m, p->k, p->b, slot, length(p), &got[0]);
 }
+/* Another answer than the stripe's counts as a refusal, for what is measured would be something else. */
+static void our_find(const struct shape *p, uint8_t *slot, uint8_t what, size_t column) {
+    uint8_t found;
+    refused |= oarwillow_locate(p->m, p->k, p->b, slot, length(p), &found, &got[0]);
+    refused |= found != what || got[0] != column;
+}
+static void our_intact(const struct shape *p, uint8_t *slot) { our_find(p, slot, OARWILLOW_FOUND_INTACT, 129); }
+static void our_locate(const struct shape *p, uint8_t *slot) { our_find(p, slot, OARWILLOW_FOUND_COLUMN, p->w); }
+static void our_rewrite(const struct shape *p, uint8_t *slot) { refused |= oarwillow_rewrite(p->m, p->k, p->b, slot, length(p), p->w); }
 static void c_encode(const struct shape *p, uint8_t *slot) { plain_encode(p->m, p->k, p->b, slot); }
 static void c_check(const struct shape *p, uint8_t *slot) { plain_check(p->m, p->k, p->b, slot, &got[0], &got[1]); }
 static void c_two(const struct shape *p, uint8_t *slot) { plain_restore(p->m, p->k, p->b, p->u, p->v, slot, slot + length(p)); }
@@ -34,9 +42,9 @@ static void r_encode(const struct shape *p, uint8_t *slot) { registers_encode(p-
 static void r_check(const struct shape *p, uint8_t *slot) { registers_check(p->m, p->k, p->b, slot, &got[0], &got[1]); }
 
 struct rival owns[OWNS] = {
-    [OURS] = {"ours", PACKED, {our_encode, our_check, our_one, our_two, our_mend}},
-    [PLAIN] = {"plain", PACKED, {c_encode, c_check, 0, c_two, 0}},
-    [REGISTERS] = {"registers", PACKED, {r_encode, r_check, 0, 0, 0}},
+    [OURS] = {"ours", PACKED, {our_encode, our_check, our_one, our_two, our_intact, our_locate, our_rewrite}},
+    [PLAIN] = {"plain", PACKED, {c_encode, c_check, 0, c_two}},
+    [REGISTERS] = {"registers", PACKED, {r_encode, r_check}},
 };
 
 struct shape shape_of(const size_t *s) {
@@ -95,9 +103,13 @@ const char *own_check(const struct shape *p, uint8_t *slot, uint8_t *good) {
             if (got[0] != 2 || got[1] != p->u || got[2] != p->v) return owns[r].name;
             memcpy(slot, good, n);
         }
-        if (run[MEND]) {
-            run[MEND](p, slot);
-            if (memcmp(slot, good, n) || got[0] != p->w) return "mend";
+        if (run[REWRITE]) {
+            run[INTACT](p, slot);
+            spoil(p, slot), run[LOCATE](p, slot), spoil(p, slot);
+            if (memcmp(slot, good, n) || refused) return "locate";
+            memset(slot + p->w * p->col, 0x55, p->col);
+            run[REWRITE](p, slot);
+            if (memcmp(slot, good, n)) return "rewrite";
         }
         if (refused) return "an answer";
     }

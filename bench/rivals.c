@@ -129,10 +129,10 @@ static void je_prepare(const struct shape *p) {
 }
 
 struct rival others[OTHERS] = {
-    [PQ_SSE] = {"pq-sse", PADDED, {pq_encode_sse, pq_look_sse, 0, 0, 0}},
-    [PQ] = {"pq", PADDED, {pq_encode, pq_look, 0, 0, 0}},
-    [RS_SSE] = {"rs-sse", PADDED, {rs_encode_sse, 0, rs_one_sse, rs_two_sse, 0}},
-    [RS] = {"rs", PADDED, {rs_encode, 0, rs_one, rs_two, 0}},
+    [PQ_SSE] = {"pq-sse", PADDED, {pq_encode_sse, pq_look_sse}},
+    [PQ] = {"pq", PADDED, {pq_encode, pq_look}},
+    [RS_SSE] = {"rs-sse", PADDED, {rs_encode_sse, 0, rs_one_sse, rs_two_sse}},
+    [RS] = {"rs", PADDED, {rs_encode, 0, rs_one, rs_two}},
     [EVENODD] = {"je-evenodd", PACKED, {0}},
     [BLAUM_ROTH] = {"je-blaum", PADDED, {0}},
 };

@@ -9,11 +9,11 @@
  * oarwillow_read and oarwillow_contents give, are results: they are written on every call, also on a refused one.
  *
  * What C must see to: each pointer is valid for the length that goes with it, and may be null where that length is 0; maps and the
- * pointers to numbers are not null; numbers behind pointers are aligned as size_t is; no two of a call's pointers overlap, save that
+ * pointers to numbers are not null; numbers behind pointers are aligned as their type is; no two of a call's pointers overlap, save that
  * buffers that are only read may be the same. Bytes may stand at any address: stripes, benches, images and maps need no alignment.
  *
- * What a call needs: its stack, less than 64 KiB, so that a thread of 128 KiB is safe (as measured, mend takes 57 KiB, check and
- * restore 40, each other call 2 at most); and memcpy, memmove and memset, which the compiler may call. It allocates nothing, has no
+ * What a call needs: its stack, less than 64 KiB, so that a thread of 128 KiB is safe (as measured, rewrite takes 55 KiB, locate 44,
+ * check and restore 40, each other call 5 at most); and memcpy, memmove and memset, which the compiler may call. It allocates nothing, has no
  * globals, keeps no pointer after it has returned and makes no call of the system. So any number of threads may call at once, each with
  * its own buffers, and a stripe that is only read may be shared.
  *
@@ -27,7 +27,7 @@
 #include <stddef.h>
 #include <stdint.h>
 
-#define OARWILLOW_VERSION "0.5.0"
+#define OARWILLOW_VERSION "0.6.0"
 
 /* Why a call is refused. Other numbers are never given. */
 enum oarwillow_refusal {
@@ -36,8 +36,8 @@ enum oarwillow_refusal {
     OARWILLOW_STRIPE_LENGTH = 2,  /* stripe length differs */
     OARWILLOW_BENCH_LENGTH = 3,   /* bench length differs */
     OARWILLOW_AMBIGUOUS = 4,      /* three or more columns absent */
-    OARWILLOW_CONTRADICTED = 5,   /* at most two absent and no valid stripe agrees with every present column */
-    OARWILLOW_UNMENDABLE = 6,     /* mend: no valid stripe differs in at most one column */
+    OARWILLOW_CONTRADICTED = 5,   /* no valid stripe agrees with every column that is read: restore with at most two absent, rewrite */
+    OARWILLOW_UNMENDABLE = 6,     /* locate: no valid stripe differs in at most one column */
     OARWILLOW_NO_SUCH_COLUMN = 7, /* column number not below k + 2 */
     OARWILLOW_MALFORMED = 8,      /* image malformed */
     OARWILLOW_STRAY_COLUMN = 9,   /* map has a place at or above k + 2 present */
@@ -57,7 +57,7 @@ static inline const char *oarwillow_reason(uint8_t number)
     case OARWILLOW_STRIPE_LENGTH: return "stripe length differs";
     case OARWILLOW_BENCH_LENGTH: return "bench length differs";
     case OARWILLOW_AMBIGUOUS: return "three or more columns absent";
-    case OARWILLOW_CONTRADICTED: return "no valid stripe agrees with every present column";
+    case OARWILLOW_CONTRADICTED: return "no valid stripe agrees with every column that is read";
     case OARWILLOW_UNMENDABLE: return "no valid stripe differs in at most one column";
     case OARWILLOW_NO_SUCH_COLUMN: return "column number not below k + 2";
     case OARWILLOW_MALFORMED: return "image malformed";
@@ -87,9 +87,25 @@ uint8_t oarwillow_check(size_t m, size_t k, size_t b, const uint8_t *stripe, siz
 uint8_t oarwillow_restore(size_t m, size_t k, size_t b, const uint8_t places[129], const uint8_t *stripe, size_t stripe_len,
                           uint8_t *bench, size_t bench_len, size_t *count, size_t *first, size_t *second);
 
-/* Takes a stripe with every column present. If it is valid, writes nothing and gives column 129. If a valid stripe differs from it in
- * exactly one column, rewrites that column and gives its number. On a refusal: 129. Refusals: 1, 12, 13, 2, 6. */
-uint8_t oarwillow_mend(size_t m, size_t k, size_t b, uint8_t *stripe, size_t stripe_len, size_t *column);
+/* What oarwillow_locate found. */
+enum oarwillow_found {
+    OARWILLOW_FOUND_REFUSED = 0, /* nothing: the call was refused */
+    OARWILLOW_FOUND_INTACT = 1,  /* the stripe is valid */
+    OARWILLOW_FOUND_BLANK = 2,   /* not given yet: a stripe of zeros is intact */
+    OARWILLOW_FOUND_BROKEN = 3,  /* not given yet, and never by oarwillow_locate */
+    OARWILLOW_FOUND_COLUMN = 4   /* one column is wrong */
+};
+
+/* Says which column is wrong, of a stripe with every column present; writes no byte of the stripe. `found` is one of `enum
+ * oarwillow_found`: OARWILLOW_FOUND_INTACT exactly when the stripe is valid, with column 129; OARWILLOW_FOUND_COLUMN exactly when some
+ * valid stripe differs from it in exactly one column, and `column` is its number. On a refusal: OARWILLOW_FOUND_REFUSED and 129. Two wrong
+ * columns can look like one other: look before you rewrite. Refusals: 1, 12, 13, 2, 6. */
+uint8_t oarwillow_locate(size_t m, size_t k, size_t b, const uint8_t *stripe, size_t stripe_len, uint8_t *found, size_t *column);
+
+/* Puts into the column that is named the one content that makes the stripe valid. It follows from the other columns, which stay; what
+ * stood in the column is not read, and never alters the answer. 5 is decided before the first byte is written: no valid stripe agrees
+ * with the other columns. Refusals: 1, 12, 13, 2, 7, 5. */
+uint8_t oarwillow_rewrite(size_t m, size_t k, size_t b, uint8_t *stripe, size_t stripe_len, size_t column);
 
 /* Says where a column lies: `from_bench` 0 for the stripe and 1 for the bench, and the part's start and length there. It reads no byte
  * and does not judge whether the bench was filled. On a refusal: 0, 0, 0. Refusals: 1, 12, 13, 2, 3, 9, 7, 4. */

@@ -12,7 +12,7 @@ pub const BAD_STRIPE: u8 = 2;
 pub const BAD_BENCH: u8 = 3;
 pub const TOO_MANY_ABSENT: u8 = 4;
 pub const NONE_FITS: u8 = 5;
-pub const NOT_MENDABLE: u8 = 6;
+pub const NONE_NEAR: u8 = 6;
 pub const BAD_NUMBER: u8 = 7;
 pub const BAD_IMAGE: u8 = 8;
 pub const STRAY_PLACE: u8 = 9;
@@ -20,6 +20,11 @@ pub const INPUT_TOO_LONG: u8 = 10;
 pub const WRONG_K: u8 = 12;
 pub const WRONG_B: u8 = 13;
 pub const LYING_MAP: u8 = 17;
+
+// What a locate found.
+pub const FOUND_NOTHING: u8 = 0;
+pub const FOUND_INTACT: u8 = 1;
+pub const FOUND_COLUMN: u8 = 4;
 
 /// Three shape numbers as handed in. The methods other than `judge` are for numbers that were accepted.
 #[derive(Clone, Copy, PartialEq, Debug)]
@@ -97,7 +102,7 @@ impl Map {
     pub fn bytes(&self) -> [u8; PLACES] { self.places.map(|present| present as u8) }
     /// Whether a place is present that is at or above the limit.
     pub fn strays(&self, limit: usize) -> bool { (limit..PLACES).any(|place| self.places[place]) }
-    fn absent_below(&self, limit: usize) -> Vec<usize> {
+    pub fn absent_below(&self, limit: usize) -> Vec<usize> {
         (0..PLACES.min(limit)).filter(|&place| !self.places[place]).collect()
     }
     /// The absent ones of the places below the limit.
@@ -327,30 +332,39 @@ pub fn restore(shape: Shape, map: &Map, stripe: &[u8], bench: &mut [u8]) -> Rest
     }
 }
 
-pub struct Mended { pub number: u8, pub column: usize }
+pub struct Located { pub number: u8, pub found: u8, pub column: usize }
 
-/// Every column in turn is taken as absent; the one for which the others fit together is rewritten.
-pub fn mend(shape: Shape, stripe: &mut [u8]) -> Mended {
+/// Every column of a stripe that is not valid is in turn taken as absent: wrong is the one without which the others fit.
+pub fn locate(shape: Shape, stripe: &[u8]) -> Located {
+    let refused = |number| Located { number, found: FOUND_NOTHING, column: NO_COLUMN };
     let number = judge_plain(shape, stripe);
-    if number != FINE {
-        return Mended { number, column: NO_COLUMN };
-    }
+    if number != FINE { return refused(number); }
     let equations = equations(shape);
-    if let Solution::One(_) = solve(shape, &equations, &[], stripe) {
-        return Mended { number, column: NO_COLUMN };
+    let fits = |absent: &[usize]| matches!(solve(shape, &equations, absent, stripe), Solution::One(_));
+    if fits(&[]) {
+        return Located { number, found: FOUND_INTACT, column: NO_COLUMN };
     }
-    let mut repairs = Vec::new();
-    for column in 0..shape.columns() {
-        if let Solution::One(fitting) = solve(shape, &equations, &[column], stripe) {
-            if fitting != stripe[shape.column(column)] { repairs.push((column, fitting)); }
-        }
+    let wrong: Vec<usize> = (0..shape.columns()).filter(|&column| fits(&[column])).collect();
+    match wrong[..] {
+        [] => refused(NONE_NEAR),
+        [column] => Located { number, found: FOUND_COLUMN, column },
+        _ => panic!("two valid stripes differ in fewer than three columns"),
     }
-    assert!(repairs.len() < 2, "two valid stripes differ in fewer than three columns");
-    match repairs.pop() {
-        None => Mended { number: NOT_MENDABLE, column: NO_COLUMN },
-        Some((column, fitting)) => {
-            stripe[shape.column(column)].copy_from_slice(&fitting);
-            Mended { number, column }
+}
+
+pub struct Rewritten { pub number: u8 }
+
+/// The column is taken as absent, and gets what the others leave for it. All of it is known before any is written.
+pub fn rewrite(shape: Shape, stripe: &mut [u8], column: usize) -> Rewritten {
+    let number = judge_plain(shape, stripe);
+    if number != FINE { return Rewritten { number }; }
+    if column >= shape.columns() { return Rewritten { number: BAD_NUMBER }; }
+    match solve(shape, &equations(shape), &[column], stripe) {
+        Solution::None => Rewritten { number: NONE_FITS },
+        Solution::Many => panic!("two valid stripes agree in all but one column"),
+        Solution::One(content) => {
+            stripe[shape.column(column)].copy_from_slice(&content);
+            Rewritten { number }
         }
     }
 }

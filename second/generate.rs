@@ -37,6 +37,8 @@ const SMALL: [(usize, usize, usize); 12] = [
 ];
 /// More bytes than the drawn shapes have: long cells beside more than eight data columns, and long columns.
 const LARGE: [(usize, usize, usize); 3] = [(11, 9, 130), (17, 2, 4096), (19, 17, 257)];
+/// Where columns are rewritten: cells on both sides of 128 bytes, with many columns or long ones, up to 64 KiB.
+const LARGE_REWRITES: [(usize, usize, usize); 4] = [(11, 9, 130), (19, 17, 257), (127, 3, 100), (17, 3, 4096)];
 /// So many columns, and such cells, that the library sums lines in bands, more than one.
 const WIDE: (usize, usize, usize) = (37, 33, 1400);
 pub const BAD_M: [usize; 36] = [
@@ -57,10 +59,13 @@ const EVERY_LENGTH_B: [usize; 4] = [0, 1, 4096, 4097];
 
 pub const PATTERNS: [&str; 9] = ["none", "data", "H", "D", "data+data", "data+H", "data+D", "H+D", "three-or-more"];
 pub const AT_MOST_ONE: [&str; 4] = ["none", "data", "H", "D"];
+/// Kinds of columns that are rewritten.
+pub const KINDS: [&str; 3] = ["data", "H", "D"];
 
 const SHAPE_ORDER: [u8; 3] = [1, 12, 13];
 pub const PLAIN_ORDER: [u8; 4] = [1, 12, 13, 2];
 pub const RESTORE_ORDER: [u8; 8] = [1, 12, 13, 2, 3, 9, 4, 5];
+pub const REWRITE_ORDER: [u8; 6] = [1, 12, 13, 2, 7, 5];
 pub const SHOW_ORDER: [u8; 8] = [1, 12, 13, 2, 3, 9, 7, 4];
 /// How an image's first eight bytes are judged.
 pub const HEADER_ORDER: [u8; 4] = [8, 1, 12, 13];
@@ -69,8 +74,10 @@ pub const HEADER_ORDER: [u8; 4] = [8, 1, 12, 13];
 pub fn together(order: &[u8]) -> Vec<Vec<u8>> {
     let mut list = vec![SHAPE_ORDER.to_vec()];
     for (n, &x) in order.iter().enumerate() {
-        // 5 needs a good shape, a stripe of its length, and at most two columns absent.
-        let later = order[n + 1..].iter().filter(|&&y| y != NONE_FITS || [BAD_BENCH, STRAY_PLACE].contains(&x));
+        // 5 needs a good shape, a stripe of its length, and at most two columns absent. Beside 7 it means that the stripe is
+        // not valid: no column has the number that is to be rewritten.
+        let beside = [BAD_BENCH, STRAY_PLACE, BAD_NUMBER];
+        let later = order[n + 1..].iter().filter(|&&y| y != NONE_FITS || beside.contains(&x));
         list.extend(later.map(|&y| vec![x, y]));
     }
     list
@@ -116,12 +123,14 @@ fn wrong_numbers(flaws: &[Flaw]) -> Vec<u8> {
 pub const IMAGE_KINDS: usize = 91;
 
 enum Recipe {
-    /// Encode, check or mend.
+    /// Encode, check or locate.
     Plain(fn(Shape, Vec<u8>) -> Request, Vec<u8>, Damage),
     Restore(Vec<u8>, &'static str, Damage),
+    /// The column that is to be rewritten is the absent one, and with none absent any.
+    Rewrite(Vec<u8>, &'static str, Damage),
     Show(Vec<u8>, &'static str),
-    /// A mend with cells of this size, which few of the drawn shapes have.
-    LongCells(usize),
+    /// With cells of this size, which few of the drawn shapes have, a locate or a rewrite of one wrong column.
+    LongCells(usize, bool),
     Mark(bool),
     Gaps,
     Lengths,
@@ -136,14 +145,24 @@ fn code_recipes() -> Vec<Recipe> {
     for faults in alone_and_together(&PLAIN_ORDER).into_iter().chain([vec![]]) {
         list.push(Recipe::Plain(Request::Encode, faults.clone(), Garbage));
         list.push(Recipe::Plain(Request::Check, faults.clone(), OneColumn));
-        list.push(Recipe::Plain(Request::Mend, faults, OneColumn));
+        list.push(Recipe::Plain(Request::Locate, faults, OneColumn));
     }
     // Most of those encodes are refused.
     list.extend((0..8).map(|_| Recipe::Plain(Request::Encode, vec![], Garbage)));
     for damage in [None, OneColumn, TwoColumns, Lanes, Imaginary, Garbage, H, D] {
         list.push(Recipe::Plain(Request::Check, vec![], damage));
-        list.push(Recipe::Plain(Request::Mend, vec![], damage));
-        list.push(Recipe::Plain(Request::Mend, vec![], damage));
+        list.push(Recipe::Plain(Request::Locate, vec![], damage));
+        list.push(Recipe::Plain(Request::Locate, vec![], damage));
+    }
+    for kind in KINDS {
+        list.push(Recipe::Rewrite(vec![], kind, None));
+        list.push(Recipe::Rewrite(vec![], kind, None));
+        list.push(Recipe::Rewrite(vec![5], kind, None));
+        list.extend([Lanes, Imaginary].map(|damage| Recipe::Rewrite(vec![], kind, damage)));
+    }
+    // Of any column; nothing is put in its place before. Without damage the stripe is valid.
+    for damage in [None, None, None, OneColumn, TwoColumns, Lanes, Imaginary, Garbage] {
+        list.push(Recipe::Rewrite(vec![], "none", damage));
     }
     for pattern in PATTERNS {
         list.push(Recipe::Restore(vec![], pattern, None));
@@ -156,17 +175,18 @@ fn code_recipes() -> Vec<Recipe> {
         list.push(Recipe::Restore(vec![], pattern, TwoColumns));
     }
     list.extend(alone_and_together(&RESTORE_ORDER).into_iter().map(|faults| Recipe::Restore(faults, "any", None)));
+    list.extend(alone_and_together(&REWRITE_ORDER).into_iter().map(|faults| Recipe::Rewrite(faults, "any", None)));
     list.extend(alone_and_together(&SHOW_ORDER).into_iter().map(|faults| Recipe::Show(faults, "any")));
-    list.extend([1000, 4096].map(Recipe::LongCells));
+    list.extend([(1000, false), (1000, true), (4096, false), (4096, true)].map(|(b, told)| Recipe::LongCells(b, told)));
     list.extend([Recipe::Mark(true), Recipe::Mark(true), Recipe::Mark(false)]);
     list
 }
 
 /// About 4 of 100 requests.
-fn gap_recipes() -> Vec<Recipe> { (0..22).map(|_| Recipe::Gaps).collect() }
+fn gap_recipes() -> Vec<Recipe> { (0..26).map(|_| Recipe::Gaps).collect() }
 
 /// About 6 of 100 requests.
-fn length_recipes() -> Vec<Recipe> { (0..34).map(|_| Recipe::Lengths).collect() }
+fn length_recipes() -> Vec<Recipe> { (0..40).map(|_| Recipe::Lengths).collect() }
 
 fn image_recipes() -> Vec<Recipe> {
     let mut list = vec![Recipe::Contents(vec![], "far"), Recipe::Read(vec![], "any", false)];
@@ -210,8 +230,8 @@ impl Maker {
         (0..count).map(move |n| self.make(&recipes[n % recipes.len()]))
     }
 
-    /// At each of several small shapes: every set of at most two absent columns, of a valid stripe and with each
-    /// present column wrong, and a mend of every single wrong column. Then a few requests at large shapes, the gaps
+    /// At each of several small shapes, of a valid stripe and with each column wrong: a check, a locate, a rewrite of
+    /// every column, and every set of at most two absent columns. Then a few requests at large shapes, the gaps
     /// of a few maps for every k from 0 to 130, and lengths for every m from 0 to 140.
     pub fn every_pattern(mut self) -> Vec<Request> {
         let mut requests = Vec::new();
@@ -224,7 +244,8 @@ impl Maker {
                     self.hurt(shape, &mut stripe, wrong);
                 }
                 requests.push(Request::Check(shape, stripe.clone()));
-                requests.push(Request::Mend(shape, stripe.clone()));
+                requests.push(Request::Locate(shape, stripe.clone()));
+                requests.extend((0..columns).map(|told| Request::Rewrite(shape, stripe.clone(), told)));
                 for first in 0..=columns {
                     for second in first..=columns {
                         let map = Map::all_but(columns, &[first, second]);
@@ -241,6 +262,9 @@ impl Maker {
         for (m, k, b) in LARGE {
             requests.extend(self.large(Shape { m, k, b }));
         }
+        for (m, k, b) in LARGE_REWRITES {
+            requests.extend(self.large_rewrites(Shape { m, k, b }));
+        }
         let (m, k, b) = WIDE;
         requests.extend(self.wide(Shape { m, k, b }));
         for k in 0..=130 {
@@ -254,38 +278,66 @@ impl Maker {
         requests
     }
 
-    /// A valid stripe restored with one column absent; with one byte of the last row wrong in D, a check, a mend and
-    /// the same restore; and with one byte of the first row wrong, a check and the restore again.
+    /// A valid stripe restored with one column absent, and with one data column rewritten that holds anything; with one
+    /// byte of the last row wrong in D, a check, a locate, and the restore and the rewrite again, which none fits; and with
+    /// one byte of the first row wrong, a check and the restore again.
     fn wide(&mut self, shape: Shape) -> Vec<Request> {
         let Shape { m, k, b } = shape;
         let mut stripe = self.random.bytes(shape.stripe_length());
         encode(shape, &mut stripe);
         let sound = self.large_restore(shape, "data", &stripe);
+        let rewritten = self.large_rewrite(shape, "data", &stripe);
         stripe[shape.column(k + 1)][(m - 2) * b + self.random.below(b)] ^= self.random.nonzero();
         let torn = self.large_restore(shape, "data", &stripe);
+        let refused = self.large_rewrite(shape, "data", &stripe);
         let mut first = stripe.clone();
         encode(shape, &mut first);
         first[shape.column(k + 1)][self.random.below(b)] ^= self.random.nonzero();
         let torn_first = self.large_restore(shape, "data", &first);
-        vec![sound, Request::Check(shape, stripe.clone()), Request::Mend(shape, stripe), torn, Request::Check(shape, first), torn_first]
+        let (check, locate) = (Request::Check(shape, stripe.clone()), Request::Locate(shape, stripe));
+        vec![sound, rewritten, check, locate, torn, refused, Request::Check(shape, first), torn_first]
     }
 
-    /// An encode, a restore for each kind of absent columns, and, with one byte of the last row wrong in a data
-    /// column, in H or in D, a check, a mend and restores with at most one column absent.
+    /// A rewrite of each kind of column; and, with one byte of the last row wrong in D, in a data column or in H, a rewrite
+    /// of another column, which none fits, and where cells are short a locate.
+    fn large_rewrites(&mut self, shape: Shape) -> Vec<Request> {
+        let Shape { m, k, b } = shape;
+        let mut stripe = self.random.bytes(shape.stripe_length());
+        encode(shape, &mut stripe);
+        let mut requests: Vec<Request> = KINDS.iter().map(|kind| self.large_rewrite(shape, kind, &stripe)).collect();
+        for (kind, wrong) in [("data", k + 1), ("H", self.random.below(k)), ("D", k)] {
+            let mut stripe = stripe.clone();
+            stripe[shape.column(wrong)][(m - 2) * b + self.random.below(b)] ^= self.random.nonzero();
+            requests.push(self.large_rewrite(shape, kind, &stripe));
+            if b < 128 { requests.push(Request::Locate(shape, stripe)); }
+        }
+        requests
+    }
+
+    /// A rewrite of a column of this kind, which holds anything.
+    fn large_rewrite(&mut self, shape: Shape, kind: &str, stripe: &[u8]) -> Request {
+        let column = self.absent(shape, kind)[0];
+        let mut stripe = stripe.to_vec();
+        stripe[shape.column(column)].iter_mut().for_each(|x| *x = self.random.byte());
+        Request::Rewrite(shape, stripe, column)
+    }
+
+    /// An encode, a restore for each kind of at most two absent columns, and, with one byte of the last row wrong in a
+    /// data column, in H or in D, a check, a locate and restores with at most one column absent, but not the wrong H or D.
     fn large(&mut self, shape: Shape) -> Vec<Request> {
         let Shape { m, k, b } = shape;
         let mut requests = vec![Request::Encode(shape, self.random.bytes(shape.stripe_length()))];
         let mut stripe = self.random.bytes(shape.stripe_length());
         encode(shape, &mut stripe);
-        for pattern in PATTERNS {
+        for pattern in &PATTERNS[..8] {
             requests.push(self.large_restore(shape, pattern, &stripe));
         }
-        for wrong in [self.random.below(k), k, k + 1] {
+        for (kind, wrong) in [("any", self.random.below(k)), ("H", k), ("D", k + 1)] {
             let mut stripe = stripe.clone();
             stripe[shape.column(wrong)][(m - 2) * b + self.random.below(b)] ^= self.random.nonzero();
             requests.push(Request::Check(shape, stripe.clone()));
-            requests.push(Request::Mend(shape, stripe.clone()));
-            for pattern in AT_MOST_ONE {
+            requests.push(Request::Locate(shape, stripe.clone()));
+            for pattern in AT_MOST_ONE.into_iter().filter(|&pattern| pattern != kind) {
                 requests.push(self.large_restore(shape, pattern, &stripe));
             }
         }
@@ -536,6 +588,14 @@ impl Maker {
         Shape { m, k, b }
     }
 
+    /// A column number that is too large for so many columns: the lowest, the highest, or another.
+    fn bad_column(&mut self, columns: usize) -> usize {
+        let low = self.random.below(columns.min(PLACES));
+        // Cut to fewer bits, some of these would be a column.
+        let other = self.random.one_of(&[columns + 1, 128, 129, 256 + low, (1 << 32) + low, (1 << 63) + low]);
+        self.random.one_of(&[columns, other.max(columns), MAX])
+    }
+
     fn bad_length(&mut self, bytes: &mut Vec<u8>, column: usize) {
         let (was, filler) = (bytes.len(), self.random.byte());
         let now = match self.random.below(8) {
@@ -575,13 +635,15 @@ impl Maker {
             let column = self.random.one_of(&present);
             self.hurt(good, &mut stripe, column);
         }
-        let stale = self.random.below(5);
-        for byte in absent.into_iter().flat_map(|column| good.column(column)) {
+        let stale = self.random.below(6);
+        for column in absent {
+            let part = &mut stripe[good.column(column)];
             match stale {
                 0 => {}
-                1 => stripe[byte] = 0,
-                2 => stripe[byte] = 255,
-                _ => stripe[byte] = self.random.byte(),
+                1 => part.fill(0),
+                2 => part.fill(255),
+                3 => self.hurt(good, &mut stripe, column),
+                _ => part.iter_mut().for_each(|x| *x = self.random.byte()),
             }
         }
         let mut bench = self.random.bytes(good.bench_length());
@@ -611,8 +673,8 @@ impl Maker {
                 let s = self.scene(faults, "none", *damage);
                 let request = operation(s.shape, s.stripe);
                 let expected = match (first(&PLAIN_ORDER, faults), damage, request.word()) {
-                    (FINE, Damage::Lanes | Damage::Imaginary, "mend") => Some(NOT_MENDABLE),
-                    (FINE, Damage::TwoColumns | Damage::Garbage, "mend") => None,
+                    (FINE, Damage::Lanes | Damage::Imaginary, "locate") => Some(NONE_NEAR),
+                    (FINE, Damage::TwoColumns | Damage::Garbage, "locate") => None,
                     (number, _, _) => Some(number),
                 };
                 Case { request, expected }
@@ -627,12 +689,37 @@ impl Maker {
                 };
                 Case { request: Request::Restore(s.shape, s.map, s.stripe, s.bench), expected }
             }
+            Recipe::Rewrite(faults, pattern, damage) => {
+                let pattern = match *pattern {
+                    // 7 comes without 5 where the stripe is valid.
+                    "any" if faults.contains(&7) && !faults.contains(&5) => "none",
+                    "any" => self.random.one_of(&KINDS),
+                    named => named,
+                };
+                let s = self.scene(faults, pattern, *damage);
+                let columns = s.shape.k.saturating_add(2);
+                let absent = s.map.absent_below(columns);
+                let column = if faults.contains(&7) {
+                    self.bad_column(columns)
+                } else if !absent.is_empty() {
+                    self.random.one_of(&absent)
+                } else {
+                    self.random.below(columns.min(PLACES))
+                };
+                // One wrong column may be the one that is named, and two can look like a third one.
+                let expected = match (first(&REWRITE_ORDER, faults), damage) {
+                    (FINE, Damage::Lanes | Damage::Imaginary) => Some(NONE_FITS),
+                    (FINE, Damage::OneColumn | Damage::TwoColumns | Damage::Garbage) => None,
+                    (number, _) => Some(number),
+                };
+                Case { request: Request::Rewrite(s.shape, s.stripe, column), expected }
+            }
             Recipe::Show(faults, pattern) => {
                 let s = self.scene(faults, pattern, Damage::None);
                 let columns = s.shape.k.saturating_add(2);
-                let absent: Vec<usize> = (0..columns.min(PLACES)).filter(|&place| !s.map.is_present(place)).collect();
+                let absent = s.map.absent_below(columns);
                 let column = if faults.contains(&7) {
-                    self.random.one_of(&[0, 0, columns + 1, 128, 129, 256, MAX]).max(columns)
+                    self.bad_column(columns)
                 } else if !absent.is_empty() && self.random.below(2) == 0 {
                     self.random.one_of(&absent)
                 } else {
@@ -642,11 +729,14 @@ impl Maker {
                 let expected = if number == FINE && absent.len() > 2 { TOO_MANY_ABSENT } else { number };
                 Case { request: Request::Show(s.shape, s.map, s.stripe, s.bench, column), expected: Some(expected) }
             }
-            Recipe::LongCells(b) => {
+            Recipe::LongCells(b, told) => {
                 let shape = Shape { m: 3, k: 1 + self.random.below(2), b: *b };
                 let mut stripe = self.valid_stripe(shape);
-                self.damage(shape, &mut stripe, Damage::OneColumn);
-                Case { request: Request::Mend(shape, stripe), expected: Some(FINE) }
+                let column = self.random.below(shape.columns());
+                self.hurt(shape, &mut stripe, column);
+                let request =
+                    if *told { Request::Rewrite(shape, stripe, column) } else { Request::Locate(shape, stripe) };
+                Case { request, expected: Some(FINE) }
             }
             Recipe::Mark(good) => {
                 let mut states = [false; PLACES];

@@ -103,11 +103,16 @@ static void answer(char **f)
         print_bytes(w);
         done(s);
         done(w);
-    } else if (strcmp(f[0], "mend") == 0) {
+    } else if (strcmp(f[0], "locate") == 0) {
         Buffer s = buffer(f[4]);
+        uint8_t found = 77;
         size_t column = 77;
-        unsigned r = oarwillow_mend(m, k, b, s.bytes, s.length, &column);
-        printf("%u %zu ", r, column);
+        unsigned r = oarwillow_locate(m, k, b, s.bytes, s.length, &found, &column);
+        printf("%u %u %zu", r, found, column);
+        done(s);
+    } else if (strcmp(f[0], "rewrite") == 0) {
+        Buffer s = buffer(f[4]);
+        printf("%u ", oarwillow_rewrite(m, k, b, s.bytes, s.length, number(f[5])));
         print_bytes(s);
         done(s);
     } else if (strcmp(f[0], "show") == 0) {

@@ -16,6 +16,7 @@ pub struct Number {
 const MAX: usize = usize::MAX;
 pub const C1: &str = "010204081020152a391e";
 const C1_05: &str = "010205081020152a391e";
+const C1_09: &str = "010204091020152a391e";
 const C3: &str = "00000000000000010100010100000001010101000001000101010001";
 const C9: &str = "01020408150a191e";
 pub const C5_IMAGE: &str = "0300030001000000\
@@ -77,12 +78,16 @@ pub fn all() -> Vec<Number> {
         ask("C6", format!("restore 3 3 1 {} {C1_05} a1a2a3a4", present(&[1, 2, 3, 4])), s("5 0 129 129 a1a2a3a4")),
         ask("C7", format!("restore 3 3 1 {cols_134} {C1_05} 00000000"), s("0 2 0 2 00031021")),
         ask("C8", format!("check 3 3 1 {C1_05}"), s("0 1 1")),
-        ask("C8", format!("mend 3 3 1 {C1_05}"), format!("0 1 {C1}")),
+        ask("C8", format!("locate 3 3 1 {C1_05}"), s("0 4 1")),
+        ask("C8", format!("rewrite 3 3 1 {C1_05} 1"), format!("0 {C1}")),
         ask("C9", format!("check 3 2 1 {C9}"), s("0 1 2")),
-        ask("C9", format!("mend 3 2 1 {C9}"), format!("6 129 {C9}")),
+        ask("C9", format!("locate 3 2 1 {C9}"), s("6 0 129")),
+        // H would have column 0 be 11 02, and D's cell 1 would then be 0e.
+        ask("C9", format!("rewrite 3 2 1 {C9} 0"), format!("5 {C9}")),
         ask("C10", format!("restore 3 3 1 {} {C1} a1a2a3a4", present(&[3, 4])), s("4 0 129 129 a1a2a3a4")),
         ask("C11", format!("check 3 3 1 {}", zeros(10)), s("0 0 0")),
-        ask("C11", format!("mend 3 3 1 {}", zeros(10)), format!("0 129 {}", zeros(10))),
+        ask("C11", format!("locate 3 3 1 {}", zeros(10)), s("0 1 129")),
+        ask("C11", format!("rewrite 3 3 1 {} 4", zeros(10)), format!("0 {}", zeros(10))),
     ];
     let shapes = [
         ("m=2", [2, 1, 1], 1),
@@ -151,10 +156,14 @@ pub fn all() -> Vec<Number> {
         ask("k+bench", format!("restore 3 4 1 {map} {C1} a1"), s("12 0 129 129 a1")),
         ask("b+bench", format!("restore 3 3 0 {map} {C1} a1"), s("13 0 129 129 a1")),
         ask("k+length", format!("encode 3 4 1 {C1}"), format!("12 {C1}")),
-        ask("b+length", format!("mend 3 3 4097 {C1}"), format!("13 129 {C1}")),
+        ask("b+length", format!("locate 3 3 4097 {C1}"), s("13 0 129")),
+        ask("b+column", format!("rewrite 3 3 4097 {C1} 9"), format!("13 {C1}")),
         ask("k+column", format!("show 3 4 1 {far} {C1} a1a2a3a4 9"), s("12 0 0 0")),
-        ask("lanes", format!("mend 3 3 2 {lanes}"), format!("6 129 {lanes}")),
-        ask("08->09", s("check 3 3 1 010204091020152a391e"), s("0 1 2")),
+        ask("lanes", format!("locate 3 3 2 {lanes}"), s("6 0 129")),
+        ask("lanes", format!("rewrite 3 3 2 {lanes} 0"), format!("5 {lanes}")),
+        ask("lanes", format!("rewrite 3 3 2 {lanes} 1"), format!("5 {lanes}")),
+        ask("column=5", format!("rewrite 3 3 1 {C1_09} 5"), format!("7 {C1_09}")),
+        ask("08->09", format!("check 3 3 1 {C1_09}"), s("0 1 2")),
         ask("C5-image", format!("contents {C5_IMAGE}"), format!("0 3 3 1 {cols_134}")),
         ask(
             "C5-image",

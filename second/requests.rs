@@ -8,7 +8,8 @@ pub enum Request {
     Encode(Shape, Vec<u8>),
     Check(Shape, Vec<u8>),
     Restore(Shape, Map, Vec<u8>, Vec<u8>),
-    Mend(Shape, Vec<u8>),
+    Locate(Shape, Vec<u8>),
+    Rewrite(Shape, Vec<u8>, usize),
     Show(Shape, Map, Vec<u8>, Vec<u8>, usize),
     Mark(Map, usize, bool),
     Gaps(usize, Map),
@@ -81,7 +82,8 @@ impl fmt::Display for Request {
     fn fmt(&self, f: &mut fmt::Formatter) -> fmt::Result {
         let word = self.word();
         match self {
-            Encode(n, s) | Check(n, s) | Mend(n, s) => write!(f, "{word} {n} {}", field(s)),
+            Encode(n, s) | Check(n, s) | Locate(n, s) => write!(f, "{word} {n} {}", field(s)),
+            Rewrite(n, s, column) => write!(f, "{word} {n} {} {column}", field(s)),
             Restore(n, map, s, bench) => write!(f, "{word} {n} {map} {} {}", field(s), field(bench)),
             Show(n, map, s, bench, column) => {
                 write!(f, "{word} {n} {map} {} {} {column}", field(s), field(bench))
@@ -101,7 +103,8 @@ impl Request {
             Encode(..) => "encode",
             Check(..) => "check",
             Restore(..) => "restore",
-            Mend(..) => "mend",
+            Locate(..) => "locate",
+            Rewrite(..) => "rewrite",
             Show(..) => "show",
             Mark(..) => "mark",
             Gaps(..) => "gaps",
@@ -119,7 +122,8 @@ impl Request {
         Some(match (parts[0], parts.len()) {
             ("encode", 5) => Encode(shape()?, bytes_of(parts[4])?),
             ("check", 5) => Check(shape()?, bytes_of(parts[4])?),
-            ("mend", 5) => Mend(shape()?, bytes_of(parts[4])?),
+            ("locate", 5) => Locate(shape()?, bytes_of(parts[4])?),
+            ("rewrite", 6) => Rewrite(shape()?, bytes_of(parts[4])?, number_of(parts[5])?),
             ("restore", 7) => {
                 Restore(shape()?, map_of(parts[4])?, bytes_of(parts[5])?, bytes_of(parts[6])?)
             }
@@ -153,10 +157,14 @@ impl Request {
                 let done = restore(*n, map, stripe, &mut bench);
                 format!("{} {} {} {} {}", done.number, done.count, done.first, done.second, field(&bench))
             }
-            Mend(n, stripe) => {
+            Locate(n, stripe) => {
+                let done = locate(*n, stripe);
+                format!("{} {} {}", done.number, done.found, done.column)
+            }
+            Rewrite(n, stripe, column) => {
                 let mut stripe = stripe.clone();
-                let done = mend(*n, &mut stripe);
-                format!("{} {} {}", done.number, done.column, field(&stripe))
+                let done = rewrite(*n, &mut stripe, *column);
+                format!("{} {}", done.number, field(&stripe))
             }
             Show(n, map, stripe, bench, column) => {
                 let done = show(*n, map, stripe, bench, *column);

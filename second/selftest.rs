@@ -5,7 +5,7 @@ use crate::generate::{IMAGE_KINDS, Maker, Random};
 use crate::image;
 use crate::lies;
 use crate::numbers;
-use crate::requests::{Request, bytes_of};
+use crate::requests::{Request, bytes_of, hex};
 use std::fmt::Debug;
 use std::io::{self, Write};
 
@@ -119,13 +119,108 @@ fn is_valid(shape: Shape, stripe: &[u8]) -> bool {
     (counts.number, counts.rows, counts.diagonals) == (0, 0, 0)
 }
 
+/// The stripe with the one content of a column that may make it valid, where that does so. It comes from the equations as
+/// they are written down: for a data column and for H from the rows, for D from the diagonals.
+fn filled_in(Shape { m, k, b }: Shape, stripe: &[u8], column: usize) -> Option<Vec<u8>> {
+    let place = |row: usize, t: usize, lane: usize| (t * (m - 1) + row) * b + lane;
+    let mut filled = stripe.to_vec();
+    for lane in 0..b {
+        let data = |row: usize, t: usize| if row < m - 1 && t < k { stripe[place(row, t, lane)] } else { 0 };
+        let s = (1..m).fold(0, |sum, t| sum ^ data(m - 1 - t, t));
+        for i in 0..m - 1 {
+            filled[place(i, column, lane)] = if column <= k {
+                (0..=k).filter(|&t| t != column).fold(0, |sum, t| sum ^ stripe[place(i, t, lane)])
+            } else {
+                (0..m).fold(s, |sum, t| sum ^ data((i + m - t) % m, t))
+            };
+        }
+    }
+    is_valid(Shape { m, k, b }, &filled).then_some(filled)
+}
+
+/// What the rules say of a shape and a stripe that is lent with it.
+fn plain_by_the_rules(Shape { m, k, b }: Shape, stripe: &[u8]) -> u8 {
+    match by_the_rules(m, k, b) {
+        0 if stripe.len() != (k + 2) * (m - 1) * b => 2,
+        number => number,
+    }
+}
+
+/// A rewrite by the rules: its number, and the stripe afterwards.
+fn rewrite_by_the_rules(shape: Shape, stripe: &[u8], column: usize) -> (u8, Vec<u8>) {
+    let refused = |number: u8| (number, stripe.to_vec());
+    match plain_by_the_rules(shape, stripe) {
+        0 if column >= shape.k + 2 => refused(7),
+        0 => filled_in(shape, stripe, column).map_or_else(|| refused(5), |filled| (0, filled)),
+        number => refused(number),
+    }
+}
+
+/// Finding and rewriting joined in one: its number, the column, and the stripe afterwards. A valid stripe is intact, with
+/// column 129. If a valid stripe differs from this one in exactly one column, that is rewritten.
+fn mend(shape: Shape, stripe: &[u8]) -> (u8, usize, Vec<u8>) {
+    let number = plain_by_the_rules(shape, stripe);
+    if number != 0 || is_valid(shape, stripe) { return (number, 129, stripe.to_vec()); }
+    let fitting = |column| Some((column, filled_in(shape, stripe, column)?));
+    let mut near: Vec<(usize, Vec<u8>)> = (0..shape.k + 2).filter_map(fitting).collect();
+    assert!(near.len() < 2, "two valid stripes lie next to one stripe");
+    near.pop().map_or_else(|| (6, 129, stripe.to_vec()), |(column, mended)| (0, column, mended))
+}
+
+/// A locate, and after it a rewrite of the column that it names, leave what `mend` leaves. Then rewrites of each column, or
+/// of some where there are many, and of what is no column: whatever it holds, the answer and what is put in are the same.
+fn locate_and_rewrite(test: &mut Test, random: &mut Random, shape: Shape, stripe: &[u8]) {
+    let about = || format!("{shape} {:?}", &stripe[..stripe.len().min(60)]);
+    let (number, column, mended) = mend(shape, stripe);
+    let found = match (number, column) {
+        (0, 129) => 1,
+        (0, _) => 4,
+        _ => 0,
+    };
+    let done = locate(shape, stripe);
+    test.same(|| format!("locate {}", about()), (done.number, done.found, done.column), (number, found, column));
+    let mut after = stripe.to_vec();
+    if done.found == 4 {
+        test.same(|| format!("rewrite {}", about()), rewrite(shape, &mut after, done.column).number, 0);
+    }
+    test.same(|| format!("the pair {}", about()), after, mended);
+    if ![0, 6].contains(&number) {
+        let refused = rewrite(shape, &mut stripe.to_vec(), 0).number;
+        return test.same(|| format!("refused rewrite {}", about()), refused, number);
+    }
+    let columns = shape.k + 2;
+    let some = [0, random.below(columns), columns - 3, columns - 2, columns - 1, column.min(columns - 1)];
+    let real = if columns <= 9 { (0..columns).collect() } else { some.to_vec() };
+    for told in real.into_iter().chain([columns, columns + 1, 129, MAX]) {
+        let about = || format!("column {told} of {}", about());
+        let (number, wanted) = rewrite_by_the_rules(shape, stripe, told);
+        let passes = told < columns && (found == 1 || found == 4 && told == column);
+        test.same(about, number, if passes { 0 } else if told < columns { 5 } else { 7 });
+        if found == 1 { test.same(about, &wanted[..], stripe); }
+        let mut held = vec![stripe.to_vec()];
+        if told < columns {
+            let contents: [fn(&mut Random) -> u8; 3] = [|_| 0, |_| 255, |random| random.below(256) as u8];
+            for content in contents {
+                let mut other = stripe.to_vec();
+                other[shape.column(told)].iter_mut().for_each(|x| *x = content(random));
+                held.push(other);
+            }
+        }
+        for before in held {
+            let mut after = before.clone();
+            let done = rewrite(shape, &mut after, told);
+            test.same(about, (done.number, after), (number, if passes { wanted.clone() } else { before }));
+        }
+    }
+}
+
 /// The columns in which two stripes differ, as bits.
 fn difference(shape: Shape, x: &[u8], y: &[u8]) -> u32 {
     let columns = x.chunks(shape.column_length()).zip(y.chunks(shape.column_length()));
     columns.enumerate().filter(|(_, (a, b))| a != b).map(|(n, _)| 1 << n).sum()
 }
 
-/// One bit to a cell: every stripe (or each `step`th), every map, against the list of all valid stripes.
+/// One bit to a cell: every stripe (or each `step`th), every column, every map, against the list of all valid stripes.
 fn every_bit_stripe(test: &mut Test, m: usize, k: usize, mark: u8, step: usize) {
     let shape = Shape { m, k, b: 1 };
     let (columns, length) = (shape.columns(), shape.column_length());
@@ -142,15 +237,29 @@ fn every_bit_stripe(test: &mut Test, m: usize, k: usize, mark: u8, step: usize) 
         let wanted = valid.iter().zip(&distances).find(|(_, d)| **d & data == 0).expect("some parity fits").0;
         test.same(about, &encoded, wanted);
         let near: Vec<usize> = (0..valid.len()).filter(|&v| distances[v].count_ones() <= 1).collect();
-        let mut mended = stripe.clone();
-        let done = mend(shape, &mut mended);
-        let wanted = match near[..] {
-            [] => (NOT_MENDABLE, NO_COLUMN, stripe),
-            [v] if distances[v] == 0 => (FINE, NO_COLUMN, stripe),
-            [v] => (FINE, distances[v].trailing_zeros() as usize, valid[v]),
+        let (number, found, column, mended) = match near[..] {
+            [] => (NONE_NEAR, 0, NO_COLUMN, stripe),
+            [v] if distances[v] == 0 => (FINE, 1, NO_COLUMN, stripe),
+            [v] => (FINE, 4, distances[v].trailing_zeros() as usize, valid[v]),
             _ => panic!("two valid stripes lie next to one stripe"),
         };
-        test.same(about, (done.number, done.column, &mended), wanted);
+        let done = locate(shape, stripe);
+        test.same(about, (done.number, done.found, done.column), (number, found, column));
+        test.same(about, mend(shape, stripe), (number, column, mended.clone()));
+        for told in (0..columns + 2).chain([129, MAX]) {
+            let agrees = |d: u32| told < columns && d & !(1 << told) == 0;
+            let fitting: Vec<&Vec<u8>> =
+                valid.iter().zip(&distances).filter(|(_, d)| agrees(**d)).map(|(v, _)| *v).collect();
+            let wanted = match fitting[..] {
+                _ if told >= columns => (BAD_NUMBER, stripe),
+                [] => (NONE_FITS, stripe),
+                [v] => (FINE, v),
+                _ => panic!("two valid stripes agree in all but one column"),
+            };
+            let mut rewritten = stripe.clone();
+            let done = rewrite(shape, &mut rewritten, told);
+            test.same(|| format!("rewrite {told} {}", about()), (done.number, &rewritten), wanted);
+        }
         for absent in 0..1u32 << columns {
             let missing: Vec<usize> = (0..columns).filter(|c| absent >> c & 1 == 1).collect();
             let fitting: Vec<&Vec<u8>> =
@@ -176,7 +285,7 @@ fn every_bit_stripe(test: &mut Test, m: usize, k: usize, mark: u8, step: usize) 
     }
 }
 
-/// Whole bytes at m=3: every content of one absent column is tried.
+/// Whole bytes at m=3: every content of one column is tried, which is absent or to be rewritten.
 fn every_column_content(test: &mut Test, shape: Shape, stripe: &[u8]) {
     for column in 0..shape.columns() {
         let map = Map::all_but(shape.columns(), &[column]);
@@ -188,9 +297,15 @@ fn every_column_content(test: &mut Test, shape: Shape, stripe: &[u8]) {
             tried[2 * column..2 * column + 2].copy_from_slice(&content.to_le_bytes());
             if is_valid(shape, &tried) { fitting.push(content.to_le_bytes().to_vec()); }
         }
+        let about = || format!("{shape:?} {stripe:?} column {column}");
         let got = if done.number == FINE { vec![bench[..2].to_vec()] } else { vec![] };
-        test.same(|| format!("{shape:?} {stripe:?} column {column}"), got, fitting);
+        test.same(about, &got, &fitting);
         test.same(|| "0 or 5".to_string(), done.number == FINE || done.number == NONE_FITS, true);
+        let mut rewritten = stripe.to_vec();
+        let number = rewrite(shape, &mut rewritten, column).number;
+        let mut wanted = stripe.to_vec();
+        fitting.iter().for_each(|content| wanted[2 * column..2 * column + 2].copy_from_slice(content));
+        test.same(about, (number, rewritten), (if fitting.is_empty() { NONE_FITS } else { FINE }, wanted));
     }
 }
 
@@ -262,6 +377,7 @@ fn lanes(test: &mut Test, shape: Shape, stripe: &[u8]) {
 
 fn generated(test: &mut Test) {
     for seed in 1..=3 {
+        let mut random = Random(seed);
         for case in Maker::new(seed).cases(1100) {
             let line = case.request.to_string();
             let request = Request::parse(&line).expect("a generated line can be read");
@@ -274,12 +390,21 @@ fn generated(test: &mut Test) {
             let number: u8 = answer.split(' ').next().and_then(|n| n.parse().ok()).expect("a number");
             let head: String = line.chars().take(200).collect();
             test.same(|| format!("seed {seed} {head}"), number, case.expected.unwrap_or(number));
-            let (lent, back) = (line.rsplit(' ').next(), answer.rsplit(' ').next());
-            if number != FINE && ["encode", "restore", "mend", "read"].contains(&request.word()) {
-                test.same(|| format!("seed {seed} refused, buffer {head}"), back, lent);
+            // A rewrite is lent the field before the last.
+            let lent = line.rsplit(' ').nth((request.word() == "rewrite") as usize);
+            if number != FINE && ["encode", "restore", "rewrite", "read"].contains(&request.word()) {
+                test.same(|| format!("seed {seed} refused, buffer {head}"), answer.rsplit(' ').next(), lent);
             }
-            if let (Request::Mend(shape, stripe) | Request::Check(shape, stripe), FINE) = (&request, number) {
+            if let (Request::Locate(shape, stripe) | Request::Check(shape, stripe), FINE) = (&request, number) {
                 lanes(test, *shape, stripe);
+            }
+            if let Request::Locate(n, stripe) | Request::Check(n, stripe) | Request::Rewrite(n, stripe, _) = &request {
+                locate_and_rewrite(test, &mut random, *n, stripe);
+            }
+            if let Request::Rewrite(shape, stripe, column) = &request {
+                let (number, stripe) = rewrite_by_the_rules(*shape, stripe, *column);
+                let bytes = if stripe.is_empty() { "-".to_string() } else { hex(&stripe) };
+                test.same(|| format!("seed {seed} {head}"), answer, format!("{number} {bytes}"));
             }
             if let Request::Contents(bytes) | Request::Read(bytes, _) = &request {
                 keeps_true(test, "contents", &image::contents(bytes).map);
@@ -339,6 +464,8 @@ fn images(test: &mut Test) {
 const MAX: usize = usize::MAX;
 const RESTORE_ORDER: [u8; 9] = [1, 12, 13, 2, 3, 17, 9, 4, 5];
 const SHOW_ORDER: [u8; 9] = [1, 12, 13, 2, 3, 17, 9, 7, 4];
+const LOCATE_ORDER: [u8; 5] = [1, 12, 13, 2, 6];
+const REWRITE_ORDER: [u8; 6] = [1, 12, 13, 2, 7, 5];
 
 /// How many places are present and which is the highest, place by place.
 fn by_the_places(places: &[bool; 129]) -> (usize, usize) {
@@ -437,6 +564,17 @@ fn false_maps_alone(test: &mut Test, random: &mut Random) {
     }
 }
 
+/// Every set of these numbers.
+fn sets(numbers: &[u8]) -> Vec<Vec<u8>> {
+    let set = |bits: usize| (0..numbers.len()).filter(|n| bits >> n & 1 == 1).map(|n| numbers[n]).collect();
+    (0..1 << numbers.len()).map(set).collect()
+}
+
+/// The first of these faults in an order.
+fn first_of(order: &[u8], faults: &[u8]) -> u8 {
+    order.iter().copied().find(|number| faults.contains(number)).unwrap_or(0)
+}
+
 /// What is handed in with exactly these faults, save that a wrong shape brings wrong lengths along, and that a stripe
 /// which nothing fits is not looked at when three columns are absent. The map is true.
 fn with_faults(faults: &[u8]) -> (Shape, Map, Vec<u8>, Vec<u8>, usize) {
@@ -445,6 +583,8 @@ fn with_faults(faults: &[u8]) -> (Shape, Map, Vec<u8>, Vec<u8>, usize) {
     let mut stripe: Vec<u8> = (0..good.stripe_length()).map(|n| (37 * n + 5) as u8).collect();
     encode(good, &mut stripe);
     if has(5) { stripe[good.stripe_length() - 1] ^= 1; }
+    // Lane 0 of column 0 and lane 1 of column 2.
+    if has(6) { [0, 17].into_iter().for_each(|at| stripe[at] ^= 1); }
     if has(2) { stripe.pop(); }
     let bench = vec![0x5a; good.bench_length() + has(3) as usize];
     let mut map = Map::all_but(good.columns(), if has(4) { &[0, 2, 3] } else { &[1] });
@@ -456,28 +596,64 @@ fn with_faults(faults: &[u8]) -> (Shape, Map, Vec<u8>, Vec<u8>, usize) {
 /// Every set of faults, and with each the map true or false in every way.
 fn false_maps_in_order(test: &mut Test) {
     const OTHERS: [u8; 9] = [1, 12, 13, 2, 3, 9, 7, 4, 5];
-    for set in 0..1 << OTHERS.len() {
-        let faults: Vec<u8> = (0..OTHERS.len()).filter(|n| set >> n & 1 == 1).map(|n| OTHERS[n]).collect();
+    for faults in sets(&OTHERS) {
         let (shape, sound, stripe, bench, column) = with_faults(&faults);
         for map in false_maps(sound.places).into_iter().chain([sound]) {
             let all = if map == sound { faults.clone() } else { [&faults[..], &[17]].concat() };
-            let first = |order: &[u8]| order.iter().copied().find(|number| all.contains(number)).unwrap_or(0);
             let about = || format!("faults {all:?}, map says {} {}", map.present, map.highest);
             let mut written = bench.clone();
             let done = restore(shape, &map, &stripe, &mut written);
-            let wanted = match first(&RESTORE_ORDER) {
+            let wanted = match first_of(&RESTORE_ORDER, &all) {
                 0 => (0, 1, 1, 129),
                 number => (number, 0, 129, 129),
             };
             test.same(about, (done.number, done.count, done.first, done.second), wanted);
             test.same(about, written == bench, wanted.0 != 0);
             let done = show(shape, &map, &stripe, &bench, column);
-            let wanted = match first(&SHOW_ORDER) {
+            let wanted = match first_of(&SHOW_ORDER, &all) {
                 0 => (0, true, 0, 8),
                 number => (number, false, 0, 0),
             };
             test.same(about, (done.number, done.from_bench, done.start, done.length), wanted);
         }
+    }
+}
+
+/// Every set of faults of a locate and of a rewrite, and the text of their requests.
+fn orders(test: &mut Test) {
+    for faults in sets(&LOCATE_ORDER) {
+        let (shape, _, stripe, ..) = with_faults(&faults);
+        let done = locate(shape, &stripe);
+        let number = first_of(&LOCATE_ORDER, &faults);
+        let wanted = (number, if number == 0 { 1 } else { 0 }, 129);
+        test.same(|| format!("locate, faults {faults:?}"), (done.number, done.found, done.column), wanted);
+    }
+    let (.., sound, _, _) = with_faults(&[]);
+    for faults in sets(&REWRITE_ORDER) {
+        let (shape, _, mut stripe, _, column) = with_faults(&faults);
+        // Column 1 is the one to be rewritten.
+        stripe[8..16].fill(0x3c);
+        let mut after = stripe.clone();
+        let done = rewrite(shape, &mut after, column);
+        let number = first_of(&REWRITE_ORDER, &faults);
+        let wanted = (number, if number == 0 { sound.clone() } else { stripe });
+        test.same(|| format!("rewrite, faults {faults:?}"), (done.number, after), wanted);
+    }
+    let c1 = numbers::C1;
+    for line in [format!("locate 3 3 1 {c1}"), format!("rewrite 3 3 1 {c1} 0"), format!("rewrite 3 3 1 {c1} {MAX}")] {
+        let request = Request::parse(&line).expect("the request is written rightly");
+        test.same(|| "text".to_string(), &request.to_string(), &line);
+    }
+    for line in [
+        format!("mend 3 3 1 {c1}"),
+        format!("locate 3 3 1 {c1} 0"),
+        "locate 3 3 1".to_string(),
+        format!("rewrite 3 3 1 {c1}"),
+        format!("rewrite 3 3 1 {c1} -1"),
+        format!("rewrite 3 3 1 {c1} 18446744073709551616"),
+        format!("rewrite 3 3 1 {c1} 0 0"),
+    ] {
+        test.same(|| format!("malformed {line}"), Request::parse(&line).is_none(), true);
     }
 }
 
@@ -608,7 +784,7 @@ fn maps(test: &mut Test) {
 }
 
 pub fn run(out: &mut impl Write) -> io::Result<bool> {
-    let groups: [(&str, fn(&mut Test)); 8] = [
+    let groups: [(&str, fn(&mut Test)); 9] = [
         ("document", document),
         ("shapes", shapes),
         ("lengths", lengths),
@@ -616,6 +792,7 @@ pub fn run(out: &mut impl Write) -> io::Result<bool> {
         ("ranks", ranks),
         ("images", images),
         ("maps", maps),
+        ("orders", orders),
         ("generated", generated),
     ];
     let mut good = true;

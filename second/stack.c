@@ -23,10 +23,10 @@
 #include "../include/oarwillow.h"
 
 enum { STACK = 256 << 10, THREAD = 128 << 10, COLUMNS = 129, LONGEST = 126 * 4096, NONE = 129 };
-enum call { HARNESS, ENCODE, CHECK, RESTORE, MEND, SHOW, CONTENTS, READ, GAPS, STRIPE_LENGTH, BENCH_LENGTH, CALLS };
-static const char *const names[CALLS] = {"harness",        "oarwillow_encode",        "oarwillow_check",       "oarwillow_restore",
-                                         "oarwillow_mend", "oarwillow_show",          "oarwillow_contents",    "oarwillow_read",
-                                         "oarwillow_gaps", "oarwillow_stripe_length", "oarwillow_bench_length"};
+enum call { HARNESS, ENCODE, CHECK, RESTORE, LOCATE, REWRITE, SHOW, CONTENTS, READ, GAPS, STRIPE_LENGTH, BENCH_LENGTH, CALLS };
+static const char *const names[CALLS] = {"harness",          "oarwillow_encode",  "oarwillow_check",         "oarwillow_restore",
+                                         "oarwillow_locate", "oarwillow_rewrite", "oarwillow_show",          "oarwillow_contents",
+                                         "oarwillow_read",   "oarwillow_gaps",    "oarwillow_stripe_length", "oarwillow_bench_length"};
 
 /* A case: a call, what it is given, and the number that it must answer, or the length. */
 struct given {
@@ -44,6 +44,7 @@ static size_t most[CALLS], cases;
 
 static uint8_t *stripe, *bench, *image, places[129];
 static size_t results[5];
+static uint8_t found;
 static unsigned answer;
 
 static void die(const char *what)
@@ -67,8 +68,11 @@ static void perform(void)
     case RESTORE:
         answer = oarwillow_restore(g->m, g->k, g->b, places, stripe, g->stripe_len, bench, g->bench_len, r, r + 1, r + 2);
         break;
-    case MEND:
-        answer = oarwillow_mend(g->m, g->k, g->b, stripe, g->stripe_len, r);
+    case LOCATE:
+        answer = oarwillow_locate(g->m, g->k, g->b, stripe, g->stripe_len, &found, r);
+        break;
+    case REWRITE:
+        answer = oarwillow_rewrite(g->m, g->k, g->b, stripe, g->stripe_len, g->column);
         break;
     case SHOW:
         answer = oarwillow_show(g->m, g->k, g->b, places, stripe, g->stripe_len, bench, g->bench_len, g->column, r, r + 1, r + 2);
@@ -188,7 +192,7 @@ static void spoil(void)
         stripe[asked.wrong[1] * column_length() + asked.b + asked.lane] ^= 2;
 }
 
-/* Makes the call. The stripe is a valid one before and afterwards: a mend that is not refused makes it so. */
+/* Makes the call. The stripe is a valid one before and afterwards: a rewrite that is not refused makes it so. */
 static void measure(void)
 {
     size_t bytes;
@@ -202,7 +206,7 @@ static void measure(void)
     bytes = written();
     if (answer != asked.number)
         die("another answer than the rules give");
-    if (asked.call != MEND || answer != 0)
+    if (asked.call != REWRITE || answer != 0)
         spoil();
     if (most[asked.call] < bytes) {
         most[asked.call] = bytes;
@@ -215,6 +219,17 @@ static void measure(void)
 static void with_wrong(enum call call, const char *words, size_t first, size_t second, size_t lane, unsigned number)
 {
     ask(call, words, number);
+    asked.wrong[0] = first;
+    asked.wrong[1] = second;
+    asked.lane = lane;
+    measure();
+}
+
+/* Rewrites a column, of a stripe with columns wrong. */
+static void with_column(const char *words, size_t column, size_t first, size_t second, size_t lane, unsigned number)
+{
+    ask(REWRITE, words, number);
+    asked.column = column;
     asked.wrong[0] = first;
     asked.wrong[1] = second;
     asked.lane = lane;
@@ -307,14 +322,23 @@ static void at_shape(size_t m, size_t k, size_t b)
     with_map(RESTORE, "H and D absent", h, d, NONE, NONE, 0);
     with_map(RESTORE, "three absent", 0, h, d, NONE, 4);
 
-    with_wrong(MEND, "intact", NONE, NONE, 0, 0);
-    with_wrong(MEND, "a data column wrong", 0, NONE, 0, 0);
-    with_wrong(MEND, "the last data column wrong", NONE, last, b - 1, 0);
-    with_wrong(MEND, "H wrong", h, NONE, 0, 0);
-    with_wrong(MEND, "D wrong", d, NONE, 0, 0);
-    with_wrong(MEND, "two wrong in one lane", 0, h, 0, 6);
+    with_wrong(LOCATE, "intact", NONE, NONE, 0, 0);
+    with_wrong(LOCATE, "a data column wrong", 0, NONE, 0, 0);
+    with_wrong(LOCATE, "the last data column wrong", NONE, last, b - 1, 0);
+    with_wrong(LOCATE, "H wrong", h, NONE, 0, 0);
+    with_wrong(LOCATE, "D wrong", d, NONE, 0, 0);
+    with_wrong(LOCATE, "two wrong in one lane", 0, h, 0, 6);
     if (b > 1)
-        with_wrong(MEND, "two wrong in two lanes", 0, h, b - 1, 6);
+        with_wrong(LOCATE, "two wrong in two lanes", 0, h, b - 1, 6);
+
+    with_column("a data column wrong", 0, 0, NONE, 0, 0);
+    with_column("the last data column wrong", last, NONE, last, b - 1, 0);
+    with_column("H wrong", h, h, NONE, 0, 0);
+    with_column("D wrong", d, d, NONE, 0, 0);
+    with_column("a data column, H wrong", 0, h, NONE, 0, 5);
+    with_column("H, D wrong", h, NONE, d, b - 1, 5);
+    with_column("D, a data column wrong", d, 0, NONE, 0, 5);
+    with_column("intact", last, NONE, NONE, 0, 0);
 
     with_map(SHOW, "present", NONE, NONE, NONE, NONE, 0);
     with_map(SHOW, "restored", 0, d, NONE, NONE, 0);
@@ -357,9 +381,11 @@ static void refusals(void)
         measure();
         with_map(call, "a place too many", 128, NONE, NONE, NONE, 9);
     }
-    ask(SHOW, "no such column", 7);
-    asked.column = 5;
-    measure();
+    for (enum call call = REWRITE; call <= SHOW; call++) {
+        ask(call, "no such column", 7);
+        asked.column = 5;
+        measure();
+    }
     for (enum call call = CONTENTS; call <= READ; call++) {
         ask(call, "no image", 8);
         measure();

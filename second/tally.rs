@@ -2,19 +2,20 @@
 
 use crate::code::*;
 use crate::generate::{
-    AT_MOST_ONE, BAD_B, BAD_K, BAD_M, GAP_KS, HEADER_ORDER, PATTERNS, PLAIN_ORDER, RESTORE_ORDER, SHOW_ORDER, SIZES,
-    together,
+    AT_MOST_ONE, BAD_B, BAD_K, BAD_M, GAP_KS, HEADER_ORDER, PATTERNS, PLAIN_ORDER, RESTORE_ORDER, REWRITE_ORDER,
+    SHOW_ORDER, SIZES, together,
 };
 use crate::image;
 use crate::requests::Request;
 use std::collections::BTreeMap;
 use std::io::{self, BufRead, Write};
 
-const ANSWERS: [(&str, &[u8]); 9] = [
+const ANSWERS: [(&str, &[u8]); 10] = [
     ("encode", &[0, 1, 2, 12, 13]),
     ("check", &[0, 1, 2, 12, 13]),
     ("restore", &[0, 1, 2, 3, 4, 5, 9, 12, 13]),
-    ("mend", &[0, 1, 2, 6, 12, 13]),
+    ("locate", &[0, 1, 2, 6, 12, 13]),
+    ("rewrite", &[0, 1, 2, 5, 7, 12, 13]),
     ("show", &[0, 1, 2, 3, 4, 7, 9, 12, 13]),
     ("mark", &[0, 7]),
     ("gaps", &[0]),
@@ -23,20 +24,26 @@ const ANSWERS: [(&str, &[u8]); 9] = [
 ];
 
 /// The orders in which faults met together are judged.
-const ORDERS: [(&str, &[u8]); 7] = [
+const ORDERS: [(&str, &[u8]); 8] = [
     ("encode", &PLAIN_ORDER),
     ("check", &PLAIN_ORDER),
-    ("mend", &PLAIN_ORDER),
+    ("locate", &PLAIN_ORDER),
     ("restore", &RESTORE_ORDER),
+    ("rewrite", &REWRITE_ORDER),
     ("show", &SHOW_ORDER),
     ("read", &HEADER_ORDER),
     ("contents", &HEADER_ORDER),
 ];
 
-const SINGLE: [&str; 22] = [
+const SINGLE: [&str; 39] = [
     "check intact", "check rows-only", "check diagonals-only", "check both",
     "restore stale",
-    "mend intact", "mend data", "mend H", "mend D", "mend 6 imaginary", "mend 6 lanes",
+    "locate intact", "locate data", "locate H", "locate D", "locate 6 imaginary", "locate 6 lanes",
+    "rewrite valid data", "rewrite valid H", "rewrite valid D",
+    "rewrite damaged data", "rewrite damaged H", "rewrite damaged D",
+    "rewrite 5 data", "rewrite 5 H", "rewrite 5 D",
+    "rewrite 5 one other", "rewrite 5 more wrong", "rewrite 5 imaginary", "rewrite 5 lanes",
+    "rewrite 7 k+2", "rewrite 7 between", "rewrite 7 max", "rewrite 7 valid",
     "show stripe", "show first-half", "show second-half",
     "mark changed", "mark same",
     "k=1", "k=m", "1<k<m", "refused k=m+1", "refused m+1<k<128",
@@ -108,6 +115,27 @@ fn pattern(shape: Shape, absent: &[usize]) -> &'static str {
         (0, true, true) => "H+D",
         _ => "three-or-more",
     }
+}
+
+fn is_valid(shape: Shape, stripe: &[u8]) -> bool {
+    let done = check(shape, stripe);
+    (done.number, done.rows, done.diagonals) == (FINE, 0, 0)
+}
+
+/// Whether the only wrong column is an imaginary one; not asked where there are many.
+fn imaginary_is_wrong(shape: Shape, stripe: &[u8]) -> bool {
+    let Shape { m, k, .. } = shape;
+    if m > 31 { return false; }
+    // The same stripe with the imaginary columns written out.
+    let (data, parity) = stripe.split_at(k * shape.column_length());
+    let all = [data, &vec![0; (m - k) * shape.column_length()], parity].concat();
+    (k..m).contains(&locate(Shape { k: m, ..shape }, &all).column)
+}
+
+/// Each byte lane as a stripe of its own; none where cells are long.
+fn lanes(shape: Shape, stripe: &[u8]) -> (Shape, Vec<Vec<u8>>) {
+    let lane = |l: usize| stripe.iter().skip(l).step_by(shape.b).copied().collect();
+    (Shape { b: 1, ..shape }, (0..shape.b).filter(|_| shape.b <= 16).map(lane).collect())
 }
 
 /// The numbers of a shape, each judged for itself.
@@ -247,21 +275,47 @@ impl Tally {
         });
     }
 
-    fn mended(&mut self, shape: Shape, stripe: &[u8], answer: &[usize]) {
-        let Shape { m, k, b } = shape;
-        match answer {
-            [0, NO_COLUMN] => self.add("mend intact"),
-            [0, column] if *column < k => self.add("mend data"),
-            [0, column] => self.add(if *column == k { "mend H" } else { "mend D" }),
-            [6, _] => {
-                // The same stripe with the imaginary columns written out.
-                let (data, parity) = stripe.split_at(k * shape.column_length());
-                let mut wide = [data, &vec![0; (m - k) * shape.column_length()], parity].concat();
-                if mend(Shape { k: m, ..shape }, &mut wide).number == FINE { self.add("mend 6 imaginary"); }
-                let lane = |l: usize| stripe.iter().skip(l).step_by(b).copied().collect::<Vec<u8>>();
-                if b <= 16 && (0..b).all(|l| mend(Shape { b: 1, ..shape }, &mut lane(l)).number == FINE) {
-                    self.add("mend 6 lanes");
+    fn located(&mut self, shape: Shape, stripe: &[u8], answer: &[usize]) {
+        match *answer {
+            [0, 1, _] => self.add("locate intact"),
+            [0, _, column] => self.add(format!("locate {}", pattern(shape, &[column]))),
+            [6, ..] => {
+                if imaginary_is_wrong(shape, stripe) { self.add("locate 6 imaginary"); }
+                let (narrow, lanes) = lanes(shape, stripe);
+                if !lanes.is_empty() && lanes.iter().all(|lane| locate(narrow, lane).number == FINE) {
+                    self.add("locate 6 lanes");
                 }
+            }
+            _ => {}
+        }
+    }
+
+    fn rewritten(&mut self, shape: Shape, stripe: &[u8], column: usize, number: u8) {
+        self.shape(shape);
+        let others = Map::all_but(shape.k.saturating_add(2).min(PLACES), &[column]);
+        self.add_faults("rewrite", &REWRITE_ORDER, &faults(shape, &others, stripe, &[], column));
+        match number {
+            FINE => {
+                let state = if is_valid(shape, stripe) { "valid" } else { "damaged" };
+                self.add(format!("rewrite {state} {}", pattern(shape, &[column])));
+            }
+            NONE_FITS => {
+                self.add(format!("rewrite 5 {}", pattern(shape, &[column])));
+                let one = locate(shape, stripe).found == FOUND_COLUMN;
+                self.add(if one { "rewrite 5 one other" } else { "rewrite 5 more wrong" });
+                if imaginary_is_wrong(shape, stripe) { self.add("rewrite 5 imaginary"); }
+                let (narrow, mut lanes) = lanes(shape, stripe);
+                if lanes.iter_mut().any(|lane| rewrite(narrow, lane, column).number == FINE) {
+                    self.add("rewrite 5 lanes");
+                }
+            }
+            BAD_NUMBER => {
+                self.add(match column {
+                    usize::MAX => "rewrite 7 max",
+                    _ if column == shape.columns() => "rewrite 7 k+2",
+                    _ => "rewrite 7 between",
+                });
+                if is_valid(shape, stripe) { self.add("rewrite 7 valid"); }
             }
             _ => {}
         }
@@ -280,10 +334,11 @@ impl Tally {
                 self.plain("check", *shape, stripe);
                 self.checked(&answer);
             }
-            Request::Mend(shape, stripe) => {
-                self.plain("mend", *shape, stripe);
-                self.mended(*shape, stripe, &answer[..2]);
+            Request::Locate(shape, stripe) => {
+                self.plain("locate", *shape, stripe);
+                self.located(*shape, stripe, &answer);
             }
+            Request::Rewrite(shape, stripe, column) => self.rewritten(*shape, stripe, *column, number),
             Request::Restore(shape, map, stripe, bench) => self.restored(*shape, map, stripe, bench, number),
             Request::Show(shape, map, stripe, bench, column) => {
                 self.shape(*shape);

@@ -11,7 +11,8 @@ uint8_t unproved_encode(size_t m, size_t k, size_t b, Part *stripe);
 uint8_t unproved_check(size_t m, size_t k, size_t b, Part *stripe, size_t *rows, size_t *diagonals);
 uint8_t unproved_restore(size_t m, size_t k, size_t b, const uint8_t *places, Part *stripe, Part *bench, size_t *count, size_t *first,
                          size_t *second);
-uint8_t unproved_mend(size_t m, size_t k, size_t b, Part *stripe, size_t *column);
+uint8_t unproved_locate(size_t m, size_t k, size_t b, Part *stripe, uint8_t *found, size_t *column);
+uint8_t unproved_rewrite(size_t m, size_t k, size_t b, Part *stripe, size_t column);
 uint8_t unproved_show(size_t m, size_t k, size_t b, const uint8_t *places, Part *stripe, Part *bench, size_t column,
                       size_t *from_bench, size_t *start, size_t *length);
 uint8_t unproved_read(Part *image, Part *stripe, uint8_t *places, size_t *m, size_t *k, size_t *b);
@@ -39,10 +40,16 @@ uint8_t oarwillow_restore(size_t m, size_t k, size_t b, const uint8_t places[129
     return unproved_restore(m, k, b, places, &s, &w, count, first, second);
 }
 
-uint8_t oarwillow_mend(size_t m, size_t k, size_t b, uint8_t *stripe, size_t stripe_len, size_t *column)
+uint8_t oarwillow_locate(size_t m, size_t k, size_t b, const uint8_t *stripe, size_t stripe_len, uint8_t *found, size_t *column)
 {
     Part s = {stripe, stripe_len};
-    return unproved_mend(m, k, b, &s, column);
+    return unproved_locate(m, k, b, &s, found, column);
+}
+
+uint8_t oarwillow_rewrite(size_t m, size_t k, size_t b, uint8_t *stripe, size_t stripe_len, size_t column)
+{
+    Part s = {stripe, stripe_len};
+    return unproved_rewrite(m, k, b, &s, column);
 }
 
 uint8_t oarwillow_show(size_t m, size_t k, size_t b, const uint8_t places[129], const uint8_t *stripe, size_t stripe_len,

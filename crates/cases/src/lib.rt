@@ -5,8 +5,9 @@ mod shapes;
 use evenodd::Map;
 use say::check_line;
 use say::encode_line;
-use say::mend_line;
+use say::locate_line;
 use say::restore_line;
+use say::rewrite_line;
 pub use shapes::shape_lines;
 use words::say_bytes;
 use words::say_word;
@@ -131,32 +132,41 @@ pub fn two_absent(out: &mut [u8], at: usize) -> usize
     restore_line(out, first, b"C5", [3, 3, 1], map, &c5, &mut bench5)
 }
 
-// C6 to C8: C1 with 04 turned to 05.
+// C6 and C7: C1 with 04 turned to 05, restored.
 pub fn wrong_byte(out: &mut [u8], at: usize) -> usize
-    ensures { λ r. ⌜ (at ≤ r) × (r ≤ at + 707) ⌝ }
+    ensures { λ r. ⌜ (at ≤ r) × (r ≤ at + 464) ⌝ }
 {
-    let mut stripe = [1u8, 2, 5, 8, 16, 32, 21, 42, 57, 30];
+    let stripe = [1u8, 2, 5, 8, 16, 32, 21, 42, 57, 30];
     let mut bench = [161u8, 162, 163, 164];
     let one = five().mark_absent(0);
     let first = restore_line(out, at, b"C6", [3, 3, 1], one, &stripe, &mut bench);
     let two = one.mark_absent(2);
-    let second = restore_line(out, first, b"C7", [3, 3, 1], two, &stripe, &mut bench);
-    let third = check_line(out, second, b"C8", 3, 3, 1, &stripe);
-    mend_line(out, third, b"C8", 3, 3, 1, &mut stripe)
+    restore_line(out, first, b"C7", [3, 3, 1], two, &stripe, &mut bench)
+}
+
+// C8: the same stripe checked, and its wrong column located and rewritten.
+pub fn wrong_column(out: &mut [u8], at: usize) -> usize
+    ensures { λ r. ⌜ (at ≤ r) × (r ≤ at + 266) ⌝ }
+{
+    let mut c8 = [1u8, 2, 5, 8, 16, 32, 21, 42, 57, 30];
+    let first = check_line(out, at, b"C8", 3, 3, 1, &c8);
+    let second = locate_line(out, first, b"C8", 3, 3, 1, &c8);
+    rewrite_line(out, second, b"C8", [3, 3, 1], &mut c8, 1)
 }
 
 // C9: a wrong column that is none of the stripe's.
 pub fn imaginary_column(out: &mut [u8], at: usize) -> usize
-    ensures { λ r. ⌜ (at ≤ r) × (r ≤ at + 243) ⌝ }
+    ensures { λ r. ⌜ (at ≤ r) × (r ≤ at + 266) ⌝ }
 {
     let mut c9 = [1u8, 2, 4, 8, 21, 10, 25, 30];
-    let next = check_line(out, at, b"C9", 3, 2, 1, &c9);
-    mend_line(out, next, b"C9", 3, 2, 1, &mut c9)
+    let first = check_line(out, at, b"C9", 3, 2, 1, &c9);
+    let second = locate_line(out, first, b"C9", 3, 2, 1, &c9);
+    rewrite_line(out, second, b"C9", [3, 2, 1], &mut c9, 0)
 }
 
 // C10 and C11: three columns absent, and an intact stripe.
 pub fn three_absent(out: &mut [u8], at: usize) -> usize
-    ensures { λ r. ⌜ (at ≤ r) × (r ≤ at + 478) ⌝ }
+    ensures { λ r. ⌜ (at ≤ r) × (r ≤ at + 502) ⌝ }
 {
     let c1 = [1u8, 2, 4, 8, 16, 32, 21, 42, 57, 30];
     let mut bench = [161u8, 162, 163, 164];
@@ -164,5 +174,6 @@ pub fn three_absent(out: &mut [u8], at: usize) -> usize
     let first = restore_line(out, at, b"C10", [3, 3, 1], map, &c1, &mut bench);
     let mut c11 = [0u8; 10];
     let second = check_line(out, first, b"C11", 3, 3, 1, &c11);
-    mend_line(out, second, b"C11", 3, 3, 1, &mut c11)
+    let third = locate_line(out, second, b"C11", 3, 3, 1, &c11);
+    rewrite_line(out, third, b"C11", [3, 3, 1], &mut c11, 4)
 }

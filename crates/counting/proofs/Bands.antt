@@ -1,15 +1,14 @@
 -- Bands: the first cells of a buffer, each set to what a cell after them holds plus a line, group of columns after group.
---   band-some, band-room   a band has room for one line at least, and for as many as are taken
 --   InBand                 the cells of a band after the columns below t: in-band-begin, in-band-next
 --   band-at                where the cells of a band stand
+--   band-found             what was found of the cells of a band is found of its lines
 --   begin-first, begin-next   what a cell begins with, by the case that the code takes
 --   tells-part             what a lent cell's bytes or-ed together tell of
 use mathlib.Core.Path.{_≡_, refl, sym, ap, ap₂, _∙_, subst}
 use mathlib.Core.Logic.{_≢_}
 use mathlib.Core.Bool.{Bool, cond}
 use mathlib.Core.List.{List}
-use Prim.Native.Nat.{ℕ, _+_, _*_, _-_, _/_, _≤_, _<_}
-use native.Mathlib.Nat.{div-mul-le-self, le-div-iff-mul-le, le-trans, mul-le-mul-right}
+use Prim.Native.Nat.{ℕ, _+_, _*_, _-_, _≤_, _<_}
 use native.Mathlib.Decide.{ℕ-discrete}
 use native.Mathlib.Omega.{arith}
 use lib.Dec.{eqb}
@@ -26,15 +25,11 @@ use Rattle.lines.specs.Rows.{Lined}
 use Rattle.lines.proofs.Rows.{lined-same}
 use Rattle.sums.specs.Sums.{begun}
 use Rattle.sums.proofs.Sweeps.{begun-first, begun-next}
+use Rattle.counting.specs.declared.testing.Broken.{Broken}
 use Rattle.counting.specs.declared.testing.Piece.{Piece}
-use Rattle.counting.specs.Counting.{columnsOf, pieceOf, below}
+use Rattle.counting.specs.Counting.{columnsOf, pieceOf, below, Found}
 use Rattle.counting.proofs.Buts.{but-join}
-
-pub band-some : (b n : ℕ) → 0 < b → b ≤ n → 0 < n / b
-band-some b n full room = le-div-iff-mul-le {k = b} {x = 1} {y = n} full .1 (omega arith)
-
-pub band-room : (r b n : ℕ) → r ≤ n / b → r * b ≤ n
-band-room r b n h = le-trans (mul-le-mul-right b h) (div-mul-le-self n b)
+use Rattle.counting.proofs.Found.{found-cong}
 
 module _ (seed to : ℕ) {begin x : ℕ} where
   pub begin-first : x ≡ 0 → begin ≡ seed → begin ≡ cond (eqb x 0) seed to
@@ -82,6 +77,12 @@ module _ (g : Grid) (s : List ℕ) (u first n seed : ℕ) where
 
 pub band-at : {n b : ℕ} {w v : List ℕ} {f : ℕ → ℕ → ℕ} → Lined n b 0 w v f → (r l : ℕ) → r < n → l < b → getD v (r * b + l) 0 ≡ f r l
 band-at {b = b} {v = v} p r l h k = let e : r * b + l ≡ 0 + (r * b + l) = omega arith in ap (λ (y : ℕ). getD v y 0) e ∙ p .inside r l h k
+
+-- the lines are f after the first ones, held to the cell at `seed`, which is as it was in x
+pub band-found : (first seed : ℕ) (x w : List ℕ) (f : ℕ → ℕ → ℕ) {enough n b : ℕ} {v : List ℕ} {r : Broken}
+    → Lined n b 0 w v (λ i l. getD w (seed + l) 0 ⊕ f l (first + i)) → ((l : ℕ) → l < b → getD w (seed + l) 0 ≡ getD x (seed + l) 0)
+    → Found enough n b (λ l i. getD v (i * b + l) 0) r → Found enough n b (λ l i. getD x (seed + l) 0 ⊕ f l (first + i)) r
+band-found first seed x w f p same q = found-cong q (λ i l h k. band-at p i l h k ∙ ap (λ (y : ℕ). y ⊕ f l (first + i)) (same l k))
 
 pub tells-part : (w : List ℕ) (o p b : ℕ) → p + b ≤ length w → Tells o (length (part w p (p + b))) (λ l. getD (part w p (p + b)) l 0) → Tells o b (λ l. getD w (p + l) 0)
 tells-part w o p b room t = tells-same (subst (λ (n : ℕ). Tells o n (λ l. getD (part w p (p + b)) l 0)) (part-size w p b room) t) (λ l h. part-at w p (p + b) l (omega arith))

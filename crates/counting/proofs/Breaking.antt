@@ -1,7 +1,7 @@
 -- Cells at places that were listed, and counting what is not zero.
 --   listed-total, listed-in   places that were listed first, lent as a part: what their cells add up to, and that they end within the bytes
 --   breaking-zero, zero-breaking   nothing is counted exactly where all is zero
---   breaking-…                no line, one more, the same bytes by another name, more lines after the first, and at most so many
+--   breaking-…                one line more, the same bytes by another name, and more lines after the first
 use mathlib.Core.Path.{_≡_, refl, sym, ap, _∙_}
 use mathlib.Core.Bool.{Bool, true, false, cond, not}
 use mathlib.Core.List.{List}
@@ -14,7 +14,7 @@ use borrow.Author.Tests.{eq-eqb, eqb-true}
 use Rattle.parity.specs.Xor.{_⊕_}
 use Rattle.parity.specs.Sum.{count, some}
 use Rattle.parity.proofs.Xor.{zero-⊕}
-use Rattle.parity.proofs.Count.{count-cong, count-most, none-pass, all-fail, some-cong, some-false, false-some}
+use Rattle.parity.proofs.Count.{count-cong, none-pass, all-fail, some-cong, some-false, false-some}
 use Rattle.cells.specs.Runs.{Tells}
 use Rattle.cells.proofs.Parts.{part}
 use Rattle.lines.specs.Places.{total, Within, Listed}
@@ -40,14 +40,6 @@ not-not true e = refl
 not-not false e = sym e
 
 module _ (b : ℕ) (f : ℕ → ℕ → ℕ) where
-  pub breaking-none : breaking 0 b f ≡ 0
-  unfolding breaking count
-  breaking-none = refl
-
-  pub breaking-most : (n : ℕ) → breaking n b f ≤ n
-  unfolding breaking
-  breaking-most n = count-most n (λ i. some b (λ l. not (eqb (f l i) 0)))
-
   pub breaking-zero : (n : ℕ) → breaking n b f ≡ 0 → (i l : ℕ) → i < n → l < b → f l i ≡ 0
   unfolding breaking
   breaking-zero n e i l h k = eqb-true (f l i) 0 (not-not (eqb (f l i) 0) (some-false b _ (none-pass n _ e i h) l k))

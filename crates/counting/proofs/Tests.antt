@@ -4,6 +4,7 @@
 --   fits-one, fits-none       in all lanes, with a column left out and with none
 --   breaks-none               with none left out, where a diagonal breaks
 --   broken-rows, broken-diagonals   what is counted are the amounts by which rows and diagonals break
+--   row-there, row-none       a row that was found to break, and none
 use mathlib.Core.Path.{_≡_, sym, ap, _∙_}
 use mathlib.Core.Logic.{_↔_}
 use mathlib.Core.Bool.{not, true, false, false≢true}
@@ -20,9 +21,10 @@ use Rattle.parity.proofs.Cells.{holds-same}
 use Rattle.parity.proofs.Candidate.{candidate-other, candidate-H}
 use Rattle.parity.proofs.Suspects.{hold-h, hold-d, amounts-hold, candidate-H-h, candidate-H-d, candidate-D-h, candidate-D-d}
 use Rattle.cells.proofs.Parts.{by-order}
-use Rattle.counting.specs.Counting.{breaking}
+use Rattle.counting.specs.declared.testing.Broken.{Broken}
+use Rattle.counting.specs.Counting.{breaking, Found, BrokenRow}
 use Rattle.counting.proofs.Buts.{rest, rest-H, rest-D, rest-data}
-use Rattle.counting.proofs.Breaking.{breaking-zero, zero-breaking}
+use Rattle.counting.proofs.Found.{found-none, none-found}
 
 module _ (m k : ℕ) (big : 1 < m) (few : k ≤ m) (a : Lane) where
   abbrev rests : ℕ → ℕ → ℕ
@@ -55,31 +57,31 @@ module _ (m k : ℕ) (big : 1 < m) (few : k ≤ m) (a : Lane) where
   holds-none u h = holds-same m k (candidate m k a u) a (λ i t _ l. candidate-other m k a u i t (λ e. absurd (omega arith)))
 
 module _ (m k b : ℕ) (big : 1 < m) (few : k ≤ m) (s : List ℕ) (u : ℕ) where
-  -- how many of the lines that leave column u out differ from line m - 1
-  abbrev differingLines : ℕ → ℕ
-  differingLines u = breaking (m - 1) b (λ l i. rest m k big few (lane m b s l) u i)
+  -- one line that differs from line m - 1, of those that leave column u out, is enough
+  abbrev FoundOne : ℕ → Broken → Type 0
+  FoundOne u r = Found 1 (m - 1) b (λ l i. rest m k big few (lane m b s l) u i) r
 
-  all-zero : (u : ℕ) {n : ℕ} → n ≡ differingLines u → n ≡ 0 → (l : ℕ) → l < b → (i : ℕ) → i < m - 1 → rest m k big few (lane m b s l) u i ≡ 0
-  all-zero u e z l hl i hi = breaking-zero b _ (m - 1) (sym e ∙ z) i l hi hl
+  all-zero : (u : ℕ) {r : Broken} → FoundOne u r → r .count ≡ 0 → (l : ℕ) → l < b → (i : ℕ) → i < m - 1 → rest m k big few (lane m b s l) u i ≡ 0
+  all-zero u p z l hl i hi = found-none p (omega arith) z i l hi hl
 
-  pub fits-one : {n : ℕ} → u < k + 2 → n ≡ differingLines u → (eqb n 0 ≡ true) ↔ FitsBut m k b u s
-  fits-one {n} h e = (
-    λ z l hl. rest-holds m k big few (lane m b s l) u h (all-zero u e (eqb-true n 0 z) l hl),
-    λ f. eq-eqb n 0 (e ∙ zero-breaking b _ (m - 1) (λ i l hi hl. holds-rest m k big few (lane m b s l) u h (f l hl) i hi)),
+  pub fits-one : (r : Broken) → u < k + 2 → FoundOne u r → (eqb (r .count) 0 ≡ true) ↔ FitsBut m k b u s
+  fits-one r h p = (
+    λ z l hl. rest-holds m k big few (lane m b s l) u h (all-zero u p (eqb-true (r .count) 0 z) l hl),
+    λ f. eq-eqb (r .count) 0 (none-found p (λ i l hi hl. holds-rest m k big few (lane m b s l) u h (f l hl) i hi)),
   )
 
-  module _ (h : k + 2 ≤ u) {d : ℕ} (diagonals : d ≡ differingLines k) where
-    no-diagonal : FitsBut m k b u s → d ≡ 0
-    no-diagonal f = diagonals ∙ zero-breaking b _ (m - 1) (λ i l hi hl.
+  module _ (h : k + 2 ≤ u) (d : Broken) (diagonals : FoundOne k d) where
+    no-diagonal : FitsBut m k b u s → d .count ≡ 0
+    no-diagonal f = none-found diagonals (λ i l hi hl.
         rest-H m k big few (lane m b s l) i hi ∙ hold-d m k (lane m b s l) (holds-none m k big few (lane m b s l) u h (f l hl)) i hi)
 
-    pub breaks-none : (d ≡ 0 → ⊥) → (false ≡ true) ↔ FitsBut m k b u s
+    pub breaks-none : (d .count ≡ 0 → ⊥) → (false ≡ true) ↔ FitsBut m k b u s
     breaks-none ne = (λ e. absurd (false≢true e), λ f. absurd (ne (no-diagonal f)))
 
-    pub fits-none : {n : ℕ} → d ≡ 0 → n ≡ differingLines (k + 1) → (eqb n 0 ≡ true) ↔ FitsBut m k b u s
-    fits-none {n} z e = (
-      λ x l hl. none-holds m k big few (lane m b s l) u h (all-zero k diagonals z l hl) (all-zero (k + 1) e (eqb-true n 0 x) l hl),
-      λ f. eq-eqb n 0 (e ∙ zero-breaking b _ (m - 1) (λ i l hi hl.
+    pub fits-none : d .count ≡ 0 → (r : Broken) → FoundOne (k + 1) r → (eqb (r .count) 0 ≡ true) ↔ FitsBut m k b u s
+    fits-none z r p = (
+      λ x l hl. none-holds m k big few (lane m b s l) u h (all-zero k diagonals z l hl) (all-zero (k + 1) p (eqb-true (r .count) 0 x) l hl),
+      λ f. eq-eqb (r .count) 0 (none-found p (λ i l hi hl.
           rest-D m k big few (lane m b s l) i hi ∙ hold-h m k (lane m b s l) (holds-none m k big few (lane m b s l) u h (f l hl)) i hi)),
     )
 
@@ -91,3 +93,16 @@ module _ (m k b : ℕ) (big : 1 < m) (few : k ≤ m) (s : List ℕ) where
   pub broken-diagonals : breaking (m - 1) b (λ l i. rest m k big few (lane m b s l) k i) ≡ brokenDiagonals m k b s
   unfolding breaking brokenDiagonals
   broken-diagonals = count-cong (m - 1) (λ i h. some-cong b (λ l _. ap (λ (v : ℕ). not (eqb v 0)) (rest-H m k big few (lane m b s l) i h)))
+
+  module _ (r : Broken) (p : Found 1 (m - 1) b (λ l i. rest m k big few (lane m b s l) (k + 1) i) r) where
+    pub row-there : (r .count ≡ 0 → ⊥) → BrokenRow m k b s (r .last)
+    row-there ne = let q = p .there (omega arith) in record {
+      there = λ h so. q .1 (λ l hl. rest-D m k big few (lane m b s l) (r .last) h ∙ so l hl);
+      none = λ h. absurd (omega (arith, q .0));
+    }
+
+    pub row-none : r .count ≡ 0 → BrokenRow m k b s (m - 1)
+    row-none e = record {
+      there = λ h. absurd (omega arith);
+      none = λ _ l i hl hi. sym (rest-D m k big few (lane m b s l) i hi) ∙ found-none p (omega arith) e i l hi hl;
+    }

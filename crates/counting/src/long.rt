@@ -1,6 +1,7 @@
 // Long cells: lines are summed by the places of their cells. With few columns all cells of a line are summed at once, and or-ed together; with
 // many that would read more streams than a machine fetches ahead, and a band of lines is summed in groups of columns. Both ways stand, since
 // bands write each sum and read it again for each group, which a stripe of few columns need not pay.
+use crate::testing::Broken;
 use crate::testing::Piece;
 use crate::testing::count_cells;
 use crate::testing::find_piece;
@@ -15,7 +16,7 @@ ghost use Rattle.lines.specs.Lines.{Laid};
 ghost use Rattle.lines.specs.Places.{total, Within};
 ghost use Rattle.lines.specs.Rows.{Lined, Room};
 ghost use Rattle.sums.specs.Sums.{begun};
-ghost use Rattle.counting.specs.Counting.{testLine, differingLines, breaks, columnsOf, pieceOf, below, Finding, Seed, Band};
+ghost use Rattle.counting.specs.Counting.{testLine, columnsOf, pieceOf, below, Finding, Seed, Band, FoundBy, FoundLines};
 ghost use Rattle.counting.specs.Gather.{Gathered};
 
 // Ors the eight parts of 16 bytes that acc has into o: all of o is zero then exactly when o was and acc is.
@@ -80,31 +81,36 @@ fn fold_line(at: &mut [usize], seed: &[u8], s: &[u8], g: Grid, u: usize, d: usiz
 }
 
 // How many of lines 0 to m - 2 differ from the cell seed.
-fn count_folded(at: &mut [usize], seed: &[u8], s: &[u8], g: Grid, u: usize) -> usize
+fn count_folded(at: &mut [usize], seed: &[u8], s: &[u8], g: Grid, u: usize, enough: usize) -> Broken
     requires { ⌜ (128 ≤ g .b) × (2 + 2 * g .k ≤ length (now at)) × Seed (now seed) (g .b) × Laid g (now s) ⌝ }
-    ensures { λ r. ⌜ r ≡ differingLines g (now (s .entry)) u (λ l. getD (now (seed .entry)) l 0) ⌝ }
+    ensures { λ found. ⌜ FoundBy g (now (s .entry)) u enough (λ l. getD (now (seed .entry)) l 0) found ⌝ }
 {
-    let mut n: usize = 0;
+    let mut count: usize = 0;
+    let mut last: usize = 0;
     for d in 0..g.m - 1 {
         if fold_line(at, seed, s, g, u, d) != 0 {
-            n += 1;
+            count += 1;
+            last = d;
+            if enough <= count {
+                return Broken { count, last };
+            }
         }
     }
-    n
+    Broken { count, last }
 }
 
 // How many of lines 0 to m - 2 differ from line m - 1, each summed at once. Of the rows that line is imaginary, and zero.
-fn count_at_once(s: &[u8], g: Grid, u: usize) -> usize
+fn count_at_once(s: &[u8], g: Grid, u: usize, enough: usize) -> Broken
     requires { ⌜ (128 ≤ g .b) × (g .k ≤ 32) × Laid g (now s) ⌝ }
-    ensures { λ r. ⌜ r ≡ breaks g (now (s .entry)) u ⌝ }
+    ensures { λ found. ⌜ FoundLines g (now (s .entry)) u enough found ⌝ }
 {
     let mut at = [0usize; 66];
     if g.k < u {
-        return count_folded(&mut at, &s[0..0], s, g, u);
+        return count_folded(&mut at, &s[0..0], s, g, u, enough);
     }
     let mut last = [0u8; 4096];
     sum_last(&mut at, &mut last, 0, s, g, u);
-    count_folded(&mut at, &last, s, g, u)
+    count_folded(&mut at, &last, s, g, u, enough)
 }
 
 // The cell of w at `to` gets a piece of a line: where its columns are the first it becomes the cell at `seed` plus the piece, otherwise the piece is
@@ -200,45 +206,50 @@ fn grow_band(
     }
 }
 
-// The smaller of two numbers.
-fn fewer(x: usize, y: usize) -> usize
-    requires { ⌜ (0 < x) × (0 < y) ⌝ }
-    ensures { λ r. ⌜ (0 < r) × (r ≤ x) × (r ≤ y) ⌝ }
-{
-    if x < y {
-        return x;
-    }
-    y
-}
-
 // How many of lines 0 to m - 2 differ from the cell of w at `seed`, in bands of as many lines as have room before it.
-fn count_bands(at: &mut [usize], w: &mut [u8], seed: usize, s: &[u8], g: Grid, u: usize) -> usize
+fn count_bands(
+    at: &mut [usize],
+    w: &mut [u8],
+    seed: usize,
+    s: &[u8],
+    g: Grid,
+    u: usize,
+    enough: usize,
+) -> Broken
     requires { ⌜ Band g (now s) (length (now at)) (length (now w)) seed 0 1 ⌝ }
-    ensures { λ c. ⌜ c ≡ differingLines g (now (s .entry)) u (λ l. getD (now (w .entry)) (seed + l) 0) ⌝ }
+    ensures { λ found. ⌜ FoundBy g (now (s .entry)) u enough (λ l. getD (now (w .entry)) (seed + l) 0) found ⌝ }
 {
     let b = g.b;
-    let last = g.m - 1;
+    let rows = g.m - 1;
     let most = seed / b;
-    let mut c: usize = 0;
+    let mut count: usize = 0;
+    let mut last: usize = 0;
     let mut first: usize = 0;
-    while first < last {
-        let n = fewer(most, last - first);
+    while first < rows {
+        let n = lines::fewer(most, rows - first);
         grow_band(at, w, seed, s, g, u, first, n);
-        c += count_cells(w, b, n);
+        let found = count_cells(w, b, n, enough);
+        if found.count != 0 {
+            count += found.count;
+            last = first + found.last;
+            if enough <= count {
+                return Broken { count, last };
+            }
+        }
         first += n;
     }
-    c
+    Broken { count, last }
 }
 
 // How many of lines 0 to m - 2 differ from line m - 1, in bands. Line m - 1 stands after the band.
-fn count_in_bands(s: &[u8], g: Grid, u: usize) -> usize
+fn count_in_bands(s: &[u8], g: Grid, u: usize, enough: usize) -> Broken
     requires { ⌜ Laid g (now s) ⌝ }
-    ensures { λ r. ⌜ r ≡ breaks g (now (s .entry)) u ⌝ }
+    ensures { λ found. ⌜ FoundLines g (now (s .entry)) u enough found ⌝ }
 {
     let mut at = [0usize; 256];
     let mut w = [0u8; 36864];
     sum_last(&mut at, &mut w, 32768, s, g, u);
-    count_bands(&mut at, &mut w, 32768, s, g, u)
+    count_bands(&mut at, &mut w, 32768, s, g, u, enough)
 }
 
 // With how many data columns, at most, lines are summed at once. Of a stripe too large for a near cache that is slow with many columns; where a data
@@ -257,13 +268,13 @@ fn most_at_once(k: usize, u: usize, length: usize) -> usize
 
 // How many of lines 0 to m - 2 differ from line m - 1. Each way is called once, so that the compiler can put the room of one where that of the other
 // would stand.
-pub(crate) fn count_long(s: &[u8], g: Grid, u: usize) -> usize
+pub(crate) fn count_long(s: &[u8], g: Grid, u: usize, enough: usize) -> Broken
     requires { ⌜ (128 ≤ g .b) × Laid g (now s) ⌝ }
-    ensures { λ r. ⌜ r ≡ breaks g (now (s .entry)) u ⌝ }
+    ensures { λ found. ⌜ FoundLines g (now (s .entry)) u enough found ⌝ }
 {
     let k = g.k;
     if most_at_once(k, u, s.len()) < k {
-        return count_in_bands(s, g, u);
+        return count_in_bands(s, g, u, enough);
     }
-    count_at_once(s, g, u)
+    count_at_once(s, g, u, enough)
 }

@@ -1,4 +1,5 @@
 // Short cells: lines are summed whole columns at a time, each turned as its lines ask.
+use crate::testing::Broken;
 use crate::testing::count_cells;
 use crate::testing::sum_last;
 use lines::Columns;
@@ -9,7 +10,7 @@ ghost use lib.ListN.{length, getD};
 ghost use Rattle.parity.specs.Xor.{_⊕_};
 ghost use Rattle.lines.specs.Lines.{Laid};
 ghost use Rattle.lines.specs.Rows.{Lined};
-ghost use Rattle.counting.specs.Counting.{testLine, breaks, ColumnRoom};
+ghost use Rattle.counting.specs.Counting.{testLine, ColumnRoom, FoundLines};
 
 // Every cell of the column w becomes line m - 1. Of the rows that line is imaginary, and zero.
 fn start_lines(at: &mut [usize], w: &mut [u8], s: &[u8], g: Grid, u: usize)
@@ -65,35 +66,42 @@ fn add_lines(w: &mut [u8], s: &[u8], g: Grid, u: usize)
 }
 
 // How many of lines 0 to m - 2 differ from line m - 1. w is room for a column.
-fn count_columns(at: &mut [usize], w: &mut [u8], s: &[u8], g: Grid, u: usize) -> usize
+fn count_columns(
+    at: &mut [usize],
+    w: &mut [u8],
+    s: &[u8],
+    g: Grid,
+    u: usize,
+    enough: usize,
+) -> Broken
     requires { ⌜ ColumnRoom g (now s) (length (now at)) (length (now w)) ⌝ }
-    ensures { λ r. ⌜ r ≡ breaks g (now (s .entry)) u ⌝ }
+    ensures { λ found. ⌜ FoundLines g (now (s .entry)) u enough found ⌝ }
 {
     let b = g.b;
     let rows = g.m - 1;
     start_lines(at, w, s, g, u);
     add_lines(w, s, g, u);
-    count_cells(w, b, rows)
+    count_cells(w, b, rows, enough)
 }
 
 // How many do where columns are short and few: with little room, since room is cleared before it is used.
-pub(crate) fn count_small(s: &[u8], g: Grid, u: usize) -> usize
+pub(crate) fn count_small(s: &[u8], g: Grid, u: usize, enough: usize) -> Broken
     requires { ⌜ (g .column ≤ 1024) × (g .k ≤ 32) × Laid g (now s) ⌝ }
-    ensures { λ r. ⌜ r ≡ breaks g (now (s .entry)) u ⌝ }
+    ensures { λ found. ⌜ FoundLines g (now (s .entry)) u enough found ⌝ }
 {
     let c = g.column;
     let mut at = [0usize; 66];
     let mut w = [0u8; 1024];
-    count_columns(&mut at, &mut w[0..c], s, g, u)
+    count_columns(&mut at, &mut w[0..c], s, g, u, enough)
 }
 
 // How many do, with room for any column of short cells.
-pub(crate) fn count_short(s: &[u8], g: Grid, u: usize) -> usize
+pub(crate) fn count_short(s: &[u8], g: Grid, u: usize, enough: usize) -> Broken
     requires { ⌜ (g .b < 128) × Laid g (now s) ⌝ }
-    ensures { λ r. ⌜ r ≡ breaks g (now (s .entry)) u ⌝ }
+    ensures { λ found. ⌜ FoundLines g (now (s .entry)) u enough found ⌝ }
 {
     let c = g.column;
     let mut at = [0usize; 256];
     let mut w = [0u8; 16384];
-    count_columns(&mut at, &mut w[0..c], s, g, u)
+    count_columns(&mut at, &mut w[0..c], s, g, u, enough)
 }

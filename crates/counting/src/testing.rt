@@ -1,14 +1,13 @@
 // The lines of the test: where their cells stand, the line that the others are held to, and how many cells differ from zero.
 use lines::Columns;
 use lines::Grid;
-ghost use mathlib.Core.Path.{_≡_};
 ghost use Prim.Native.Nat.{_+_, _*_, _-_, _≤_, _<_};
 ghost use lib.ListN.{length, getD};
 ghost use Rattle.cells.specs.Runs.{Put};
 ghost use Rattle.lines.specs.Lines.{Laid};
 ghost use Rattle.lines.specs.Places.{Listed, Follows};
 ghost use Rattle.sums.specs.Sums.{windowOf};
-ghost use Rattle.counting.specs.Counting.{breaking, testLine, pieceOf, Finding};
+ghost use Rattle.counting.specs.Counting.{testLine, pieceOf, Finding, Found};
 
 // A piece of line d of those that leave column u out: its cells in the data columns from `from` up to `to`, and where these are the first also
 // those in H and D.
@@ -17,6 +16,12 @@ pub(crate) struct Piece {
     pub(crate) d: usize,
     pub(crate) from: usize,
     pub(crate) to: usize,
+}
+
+// What was found of some lines: how many break, and the last that was seen to. Once `enough` of them break, the others are not looked at.
+pub(crate) struct Broken {
+    pub(crate) count: usize,
+    pub(crate) last: usize,
 }
 
 // Puts the places of the cells that row r has in those columns, and where they are the first in H, after the first n places of `at`. How many
@@ -77,19 +82,24 @@ pub(crate) fn sum_last(at: &mut [usize], w: &mut [u8], to: usize, s: &[u8], g: G
 }
 
 // How many of the first n cells of w, of b lanes each, are not zero. Where all of them are, no cell is looked at by itself.
-pub(crate) fn count_cells(w: &[u8], b: usize, n: usize) -> usize
+pub(crate) fn count_cells(w: &[u8], b: usize, n: usize, enough: usize) -> Broken
     requires { ⌜ n * b ≤ length (now w) ⌝ }
-    ensures { λ c. ⌜ c ≡ breaking n b (λ l r. getD (now (w .entry)) (r * b + l) 0) ⌝ }
+    ensures { λ found. ⌜ Found enough n b (λ l r. getD (now (w .entry)) (r * b + l) 0) found ⌝ }
 {
+    let mut count: usize = 0;
+    let mut last: usize = 0;
     if cells::any(&w[0..n * b]) == 0 {
-        return 0;
+        return Broken { count, last };
     }
-    let mut c: usize = 0;
     for r in 0..n {
         let p = r * b;
         if cells::any(&w[p..p + b]) != 0 {
-            c += 1;
+            count += 1;
+            last = r;
+            if enough <= count {
+                return Broken { count, last };
+            }
         }
     }
-    c
+    Broken { count, last }
 }

@@ -9,30 +9,34 @@ use native.Mathlib.Decide.{decLt}
 use native.Mathlib.Omega.{arith}
 use Rattle.parity.specs.Shape.{Shape, stripeLength, benchLength}
 use Rattle.parity.specs.Stripe.{Valid}
-use Rattle.parity.specs.Presence.{differs, absences, DifferIn, Agrees}
-use Rattle.parity.proofs.Columns.{same-column, column-same}
+use Rattle.parity.specs.Presence.{differs, absences, Agrees, AgreesBut}
+use Rattle.parity.proofs.Columns.{same-column}
 use Rattle.parity.proofs.Stripes.{stripe-determined}
-use Rattle.parity.proofs.Theorems.{frame, served, at-most-one, absent-unread, one-wrong, near, few-differ}
-use Rattle.inputs.specs.Rules.{tooManyAbsent, contradicted, unmendable, stripeRules, lentRules, gapRules, mendRules, restoreRules, showRules}
+use Rattle.parity.proofs.Theorems.{frame, served, at-most-one, absent-unread, one-wrong}
+use Rattle.inputs.specs.Rules.{tooManyAbsent, contradicted, contradictedBut, unmendable, noSuchColumn, stripeRules, lentRules, gapRules, restoreRules, showRules}
 use Rattle.inputs.proofs.Rules.{passes-not, refuse-one, gives-one, passed-first, gives-passed, gives-instead}
 use Rattle.inputs.proofs.Stripe.{stripe-given}
 use Rattle.evenodd.specs.declared.checks.Checked.the-variants as checked
 use Rattle.evenodd.specs.declared.encodes.Encoded.the-variants as encoded
-use Rattle.evenodd.proofs.Mended.{intact-valid}
+use Rattle.evenodd.proofs.Located.{not-one}
+use Rattle.evenodd.proofs.Rewritten.{between, agrees-self, agrees-back, one-but}
 use Rattle.evenodd.proofs.Shown.{in-stripe, in-bench}
-use Rattle.evenodd.specs.Determined.{EncodesOne, ChecksOne, RestoresOne, RestoresUnread, MendsOne, PlacesOne, SamePart, ShowsOne, PlacesUnread, ShowsUnread}
-use lib.Dec.{eqb}
+use Rattle.evenodd.specs.Determined.{EncodesOne, ChecksOne, RestoresOne, RestoresUnread, LocatesOne, RewritesOne, leftOf, RewritesUnread, MendsOne, PlacesOne, SamePart, ShowsOne, PlacesUnread, ShowsUnread}
 use lib.ListN.{length}
-use borrow.Author.Tests.{eq-eqb}
 use Rattle.parity.specs.Theorems.{AtMostOne, AbsentUnread, OneWrong}
 use Rattle.parity.proofs.Bytes.{stripe-ext}
 use Rattle.inputs.proofs.Absent.{nth-one}
 use Rattle.inputs.specs.declared.maps.Map.{Map}
 use Rattle.inputs.specs.Refusals.{pass, Gives, Verdict}
 use Rattle.inputs.proofs.Tests.{lent-given}
-use Rattle.evenodd.specs.declared.mends.Mended.the-variants as mended
+use Rattle.evenodd.specs.declared.locates.Located.the-variants as located
 use Rattle.evenodd.specs.declared.restores.Restored.the-variants as restored
+use Rattle.evenodd.specs.declared.rewrites.Rewritten.{Rewritten}
+use Rattle.evenodd.specs.declared.rewrites.Rewritten.the-variants as rewritten
 use Rattle.evenodd.specs.Restores.{Benched, RestoredFrom}
+use Rattle.evenodd.specs.Locates.{locateRules}
+use Rattle.evenodd.specs.Rewrites.{rewriteRules, Rewrites}
+use Rattle.evenodd.specs.Mends.{Mends}
 use denote.Ref.{RefT, now}
 use Rattle.evenodd.specs.declared.shows.Place.{Place}
 use Rattle.evenodd.specs.declared.shows.Place.the-variants.{InStripe, InBench, Refused}
@@ -144,33 +148,76 @@ restores-unread m k b map s other bench x r p e a = record {
       bench = u .bench;
     }
 
--- ---- mend
+-- ---- locate
 
-pub mend-shape : (m k b : ℕ) (s : List ℕ) → Gives (mendRules m k b s) pass → Shape m k b
-mend-shape m k b s g = stripe-given m k b (length s) (gives-passed (stripeRules m k b (length s)) (unmendable m k b s ∷ []) g .0) .0
+pub locates-one : LocatesOne
+unfolding LocatesOne
+locates-one m k b s located.Intact located.Intact p q = refl
+locates-one m k b s located.Intact (located.Column v) p q = sym (q .found refl .intact .1 (p .found refl .intact .0 refl))
+locates-one m k b s located.Intact (located.Refused g) p q = absurd (passes-not g (gives-one (locateRules m k b s) _ _ (p .told) (q .told)))
+locates-one m k b s (located.Column u) located.Intact p q = p .found refl .intact .1 (q .found refl .intact .0 refl)
+locates-one m k b s (located.Column u) (located.Column v) p q = sym (q .found refl .named u .1 (p .found refl .named u .0 refl))
+locates-one m k b s (located.Column u) (located.Refused g) p q = absurd (passes-not g (gives-one (locateRules m k b s) _ _ (p .told) (q .told)))
+locates-one m k b s (located.Refused f) located.Intact p q = absurd (passes-not f (gives-one (locateRules m k b s) _ _ (q .told) (p .told)))
+locates-one m k b s (located.Refused f) (located.Column v) p q = absurd (passes-not f (gives-one (locateRules m k b s) _ _ (q .told) (p .told)))
+locates-one m k b s (located.Refused f) (located.Refused g) p q = ap located.Refused (refuse-one f g (gives-one (locateRules m k b s) _ _ (p .told) (q .told)))
 
--- a valid stripe does not differ from a valid one in exactly one column
-pub not-one : (m k b : ℕ) → Shape m k b → (s x : List ℕ) (u : ℕ) → u < k + 2 → Valid m k b s → Valid m k b x → DifferIn m k b (eqb u) s x → ⊥
-not-one m k b h s x u hu vs vx d =
-    let e : s ≡ x = near m k b h s x vs vx (let l = few-differ m k b u s x d in omega arith) in
-    true≢false (sym (eq-eqb u u refl) ∙ sym (d .at u hu) ∙ ap (λ q. differs m b s q u) (sym e) ∙ column-same m b s s u (λ l i hl hi. refl))
+-- ---- rewrite
+
+-- what the rules give of a stripe they give of another that agrees with it in every other column
+instead : (m k b column : ℕ) (s other : List ℕ) → AgreesBut m k b column s other → {v : Verdict}
+    → Gives (noSuchColumn k column ∷ contradictedBut m k b column s ∷ []) v → Gives (noSuchColumn k column ∷ contradictedBut m k b column other ∷ []) v
+instead m k b column s other a (inl c) = inl c
+instead m k b column s other a (inr (n, inl c)) = inr (n, inl (λ v vv av. c .0 v vv (between m k b column other other s v (agrees-self m k b column other) (agrees-back m k b column s other a) av), c .1))
+instead m k b column s other a (inr (n, inr c)) = inr (n, inr (λ d. c .0 (λ v vv av. d v vv (between m k b column s s other v (agrees-self m k b column s) a av)), c .1))
+
+pub rewrites-unread : RewritesUnread
+unfolding RewritesUnread
+rewrites-unread m k b column s other x r p size a = go r p
+  where
+    told : {v : Verdict} → Gives (rewriteRules m k b column s) v → Gives (rewriteRules m k b column other) v
+    told {v} g = gives-instead (stripeRules m k b (length other)) (noSuchColumn k column ∷ contradictedBut m k b column s ∷ []) (noSuchColumn k column ∷ contradictedBut m k b column other ∷ []) v
+        (instead m k b column s other a) (rw (← size) at g)
+
+    go : (r : Rewritten) → Rewrites m k b column s x r → Rewrites m k b column other (leftOf r x other) r
+    go rewritten.Done p = record { told = told (p .told); left = (p .left .0, between m k b column s s other x (agrees-self m k b column s) a (p .left .1)) }
+    go (rewritten.Refused f) p = record { told = told (p .told); left = refl }
+
+pub rewrites-one : RewritesOne
+unfolding RewritesOne
+rewrites-one m k b column s x y rewritten.Done rewritten.Done p q =
+    let h = stripe-given m k b (length s) (gives-passed (stripeRules m k b (length s)) (noSuchColumn k column ∷ contradictedBut m k b column s ∷ []) (p .told) .0) .0 in
+    (refl, one-but m k b column h x y (p .left .0) (q .left .0) (between m k b column s s x y (agrees-self m k b column s) (p .left .1) (q .left .1)))
+rewrites-one m k b column s x y rewritten.Done (rewritten.Refused g) p q = absurd (passes-not g (gives-one (rewriteRules m k b column s) _ _ (p .told) (q .told)))
+rewrites-one m k b column s x y (rewritten.Refused f) rewritten.Done p q = absurd (passes-not f (gives-one (rewriteRules m k b column s) _ _ (q .told) (p .told)))
+rewrites-one m k b column s x y (rewritten.Refused f) (rewritten.Refused g) p q =
+    (ap rewritten.Refused (refuse-one f g (gives-one (rewriteRules m k b column s) _ _ (p .told) (q .told))), p .left ∙ sym (q .left))
+
+-- ---- what mend promised
+
+pub locate-passed : (m k b : ℕ) (s : List ℕ) → Gives (locateRules m k b s) pass → Shape m k b × (length s ≡ stripeLength m k b)
+locate-passed m k b s g = stripe-given m k b (length s) (gives-passed (stripeRules m k b (length s)) (unmendable m k b s ∷ []) g .0)
+
+-- an intact stripe is valid, and was
+intact-valid : {m k b : ℕ} {s x : List ℕ} → Mends m k b s x located.Intact → Valid m k b s
+intact-valid p = rw (p .kept refl) at (p .valid refl)
 
 pub mends-one : MendsOne
 unfolding MendsOne OneWrong
-mends-one m k b s x y mended.Intact mended.Intact p q = (refl, p .kept refl ∙ sym (q .kept refl))
-mends-one m k b s x y mended.Intact (mended.Column v) p q =
-    absurd (not-one m k b (mend-shape m k b s (p .told)) s y v (q .named v refl) (intact-valid p) (q .valid refl) (q .differed refl))
-mends-one m k b s x y mended.Intact (mended.Refused g) p q = absurd (passes-not g (gives-one (mendRules m k b s) _ _ (p .told) (q .told)))
-mends-one m k b s x y (mended.Column u) mended.Intact p q =
-    absurd (not-one m k b (mend-shape m k b s (p .told)) s x u (p .named u refl) (intact-valid q) (p .valid refl) (p .differed refl))
-mends-one m k b s x y (mended.Column u) (mended.Column v) p q =
-    let (a, c) = one-wrong m k b (mend-shape m k b s (p .told)) s x y u v (p .named u refl) (q .named v refl) (p .valid refl) (q .valid refl) (p .differed refl) (q .differed refl) in
-    (ap mended.Column a, c)
-mends-one m k b s x y (mended.Column u) (mended.Refused g) p q = absurd (passes-not g (gives-one (mendRules m k b s) _ _ (p .told) (q .told)))
-mends-one m k b s x y (mended.Refused f) mended.Intact p q = absurd (passes-not f (gives-one (mendRules m k b s) _ _ (q .told) (p .told)))
-mends-one m k b s x y (mended.Refused f) (mended.Column v) p q = absurd (passes-not f (gives-one (mendRules m k b s) _ _ (q .told) (p .told)))
-mends-one m k b s x y (mended.Refused f) (mended.Refused g) p q =
-    (ap mended.Refused (refuse-one f g (gives-one (mendRules m k b s) _ _ (p .told) (q .told))), p .kept refl ∙ sym (q .kept refl))
+mends-one m k b s x y located.Intact located.Intact p q = (refl, p .kept refl ∙ sym (q .kept refl))
+mends-one m k b s x y located.Intact (located.Column v) p q =
+    absurd (not-one m k b (locate-passed m k b s (p .told) .0) s y v (q .named v refl) (intact-valid p) (q .valid refl) (q .differed refl))
+mends-one m k b s x y located.Intact (located.Refused g) p q = absurd (passes-not g (gives-one (locateRules m k b s) _ _ (p .told) (q .told)))
+mends-one m k b s x y (located.Column u) located.Intact p q =
+    absurd (not-one m k b (locate-passed m k b s (p .told) .0) s x u (p .named u refl) (intact-valid q) (p .valid refl) (p .differed refl))
+mends-one m k b s x y (located.Column u) (located.Column v) p q =
+    let (a, c) = one-wrong m k b (locate-passed m k b s (p .told) .0) s x y u v (p .named u refl) (q .named v refl) (p .valid refl) (q .valid refl) (p .differed refl) (q .differed refl) in
+    (ap located.Column a, c)
+mends-one m k b s x y (located.Column u) (located.Refused g) p q = absurd (passes-not g (gives-one (locateRules m k b s) _ _ (p .told) (q .told)))
+mends-one m k b s x y (located.Refused f) located.Intact p q = absurd (passes-not f (gives-one (locateRules m k b s) _ _ (q .told) (p .told)))
+mends-one m k b s x y (located.Refused f) (located.Column v) p q = absurd (passes-not f (gives-one (locateRules m k b s) _ _ (q .told) (p .told)))
+mends-one m k b s x y (located.Refused f) (located.Refused g) p q =
+    (ap located.Refused (refuse-one f g (gives-one (locateRules m k b s) _ _ (p .told) (q .told))), p .kept refl ∙ sym (q .kept refl))
 
 -- ---- show
 

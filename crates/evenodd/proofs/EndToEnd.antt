@@ -6,36 +6,40 @@ use mathlib.Core.List.{List, [], _∷_}
 use Prim.Native.Nat.{ℕ, _+_, _-_, _≤_, _<_}
 use native.Mathlib.Decide.{ℕ-discrete, decLt}
 use native.Mathlib.Omega.{arith}
-use lib.Dec.{eqb}
 use lib.ListN.{length}
 use borrow.Author.Tests.{lt-ltb, eq-eqb, ne-eqb}
-use Rattle.parity.specs.Shape.{Shape}
+use Rattle.parity.specs.Shape.{Shape, stripeLength}
 use Rattle.parity.specs.Stripe.{byte, Valid}
-use Rattle.parity.specs.Presence.{present, absences, differs, differing, DifferIn, Agrees}
-use Rattle.parity.specs.Theorems.{AtMostOne, NeverOne, OneWrong}
+use Rattle.parity.specs.Presence.{present, absences, differs, differing, Agrees, AgreesBut}
+use Rattle.parity.specs.Theorems.{AtMostOne, NeverOne}
 use Rattle.parity.proofs.Bytes.{stripe-ext}
 use Rattle.parity.proofs.Columns.{same-column, column-same}
 use Rattle.parity.proofs.Count.{few-pass}
-use Rattle.parity.proofs.Theorems.{at-most-one, never-one, one-wrong, near}
+use Rattle.parity.proofs.Theorems.{at-most-one, never-one}
 use Rattle.inputs.specs.declared.shapes.Refusal.{Refusal}
-use Rattle.inputs.specs.declared.shapes.Refusal.the-variants.{Ambiguous, Contradicted}
+use Rattle.inputs.specs.declared.shapes.Refusal.the-variants.{Ambiguous, Contradicted, Unmendable}
 use Rattle.inputs.specs.Refusals.{numberOf, pass, refuse, Gives}
 use Rattle.inputs.specs.Absent.{absentBelow}
-use Rattle.inputs.specs.Rules.{tooManyAbsent, contradicted, unmendable, stripeRules, lentRules, gapRules, mendRules, restoreRules}
+use Rattle.inputs.specs.Rules.{tooManyAbsent, contradicted, contradictedBut, unmendable, noSuchColumn, stripeRules, lentRules, gapRules, restoreRules}
 use Rattle.inputs.proofs.Absent.{absences-below, below-under, nth-one, absent-nth}
-use Rattle.inputs.proofs.Rules.{passes-not, refuse-one, gives-one, gives-next, gives-after, gives-rest}
+use Rattle.inputs.proofs.Rules.{passes-not, refuse-one, gives-one, gives-first, gives-next, gives-after, gives-rest}
+use Rattle.inputs.proofs.Shape.{places-most}
 use Rattle.inputs.proofs.Stripe.{stripe-given, stripe-passed}
 use Rattle.inputs.proofs.Tests.{lent-passed, gaps-passed}
-use Rattle.evenodd.specs.declared.mends.Mended.{Mended}
-use Rattle.evenodd.specs.declared.mends.Mended.the-variants as mended
+use Rattle.evenodd.specs.declared.locates.Located.{Located}
+use Rattle.evenodd.specs.declared.locates.Located.the-variants as located
 use Rattle.evenodd.specs.declared.restores.Restored.{Restored}
 use Rattle.evenodd.specs.declared.restores.Restored.the-variants as restored
-use Rattle.evenodd.specs.Mends.{Mends}
+use Rattle.evenodd.specs.declared.rewrites.Rewritten.{Rewritten}
+use Rattle.evenodd.specs.declared.rewrites.Rewritten.the-variants as rewritten
+use Rattle.evenodd.specs.Locates.{locateRules, OneDiffers, Locates}
+use Rattle.evenodd.specs.Rewrites.{rewriteRules, Rewrites}
+use Rattle.evenodd.specs.Rewrites as rewrites
 use Rattle.evenodd.specs.Restores.{verdictOf, RestoredFrom}
 use Rattle.evenodd.specs.Shows.{half}
-use Rattle.evenodd.specs.EndToEnd.{Fits, FitsAlone, Together, GivesTheOne, OneOrNothing, RestoreGivesBack, MendGivesBack}
-use Rattle.evenodd.proofs.Determined.{not-one}
-use Rattle.evenodd.proofs.Mended.{intact-valid}
+use Rattle.evenodd.specs.EndToEnd.{Fits, FitsAlone, Together, GivesTheOne, OneOrNothing, RestoreGivesBack, PairGivesBack, PairMends, NothingToRewrite, RewriteKeepsValid}
+use Rattle.evenodd.proofs.Determined.{locate-passed}
+use Rattle.evenodd.proofs.Rewritten.{between, agrees-self, one-but, rewrite-told}
 
 agrees-back : (m k b : ℕ) (map : List Bool) (s v : List ℕ) → Agrees m k b map s v → Agrees m k b map v s
 agrees-back m k b map s v a = record { at = λ t ht p. column-same m b v s t (λ l i hl hi. sym (same-column m b s v t (a .at t ht p) l i hl hi)) }
@@ -137,9 +141,45 @@ restore-gives-back m k b map fresh s lost before after (restored.Refused r) enc 
     (gives-next (λ c. c s (enc .written .0) (agrees-back m k b (map .places) s lost agrees)) refl))
     (p .told)))
 
-pub mend-gives-back : MendGivesBack
-unfolding MendGivesBack OneWrong differing
-mend-gives-back m k b u fresh s wrong after r enc st hu only p = go r p
+-- rewrite of a column, where a valid stripe v agrees with all others: it passes, and leaves v
+rewrite-leaves : (m k b u : ℕ) → Shape m k b → u < k + 2 → (s v after : List ℕ) → length s ≡ stripeLength m k b → Valid m k b v → AgreesBut m k b u s v → (q : Rewritten) → Rewrites m k b u s after q
+    → (q ≡ rewritten.Done) × (after ≡ v)
+rewrite-leaves m k b u h hu s v after whole vv a rewritten.Done p = (refl, one-but m k b u h after v (p .left .0) vv (between m k b u s s after v (agrees-self m k b u s) (p .left .1) a))
+rewrite-leaves m k b u h hu s v after whole vv a (rewritten.Refused f) p =
+    absurd (passes-not f (gives-one (rewriteRules m k b u s) _ _ (rewrite-told m k b u h s whole (gives-next (λ out. omega arith) (gives-next (λ none. none v vv a) refl))) (p .told)))
+
+-- where locate gives 6, no test before it refuses, and its condition holds
+module _ (m k b : ℕ) (s : List ℕ) where
+  other-number : {f : Refusal} → (numberOf f ≡ 6 → ⊥) → refuse Unmendable ≡ refuse f → ⊥
+  other-number {f} ne e = ne (sym (ap numberOf (refuse-one Unmendable f e)))
+
+  none-near : Gives (locateRules m k b s) (refuse Unmendable) → Gives (stripeRules m k b (length s)) pass × ((v : List ℕ) → Valid m k b v → differing m k b s v ≤ 1 → ⊥)
+  none-near (inl c) = absurd (other-number (λ n. omega arith) (c .1))
+  none-near (inr (x, inl c)) = absurd (other-number (λ n. omega arith) (c .1))
+  none-near (inr (x, inr (y, inl c))) = absurd (other-number (λ n. omega arith) (c .1))
+  none-near (inr (x, inr (y, inr (z, inl c)))) = absurd (other-number (λ n. omega arith) (c .1))
+  none-near (inr (x, inr (y, inr (z, inr (w, inl c))))) = (inr (x, inr (y, inr (z, inr (w, refl)))), c .0)
+  none-near (inr (x, inr (y, inr (z, inr (w, inr c))))) = absurd (passes-not Unmendable (sym (c .1)))
+
+pub nothing-to-rewrite : NothingToRewrite
+unfolding NothingToRewrite differing
+nothing-to-rewrite m k b column s after q p hu w =
+    let (passed, none) = none-near m k b s (p .told) in
+    let no : (v : List ℕ) → Valid m k b v → AgreesBut m k b column s v → ⊥ = λ v vv a. none v vv (few-pass (k + 2) column (differs m b s v) (a .at)) in
+    refused-with q (gives-one (rewriteRules m k b column s) _ _ (w .told)
+    (gives-after (stripeRules m k b (length s)) (noSuchColumn k column ∷ contradictedBut m k b column s ∷ []) _ passed (gives-next (λ out. omega arith) (gives-first no))))
+  where
+    refused-with : (q : Rewritten) {f : Refusal} → rewrites.verdictOf q ≡ refuse f → q ≡ rewritten.Refused f
+    refused-with rewritten.Done {f} e = absurd (passes-not f e)
+    refused-with (rewritten.Refused g) {f} e = ap rewritten.Refused (refuse-one g f e)
+
+pub rewrite-keeps-valid : RewriteKeepsValid
+unfolding RewriteKeepsValid
+rewrite-keeps-valid m k b column s after q h v hu p = rewrite-leaves m k b column h hu s s after (v .stripe .whole) v (agrees-self m k b column s) q p
+
+pub pair-gives-back : PairGivesBack
+unfolding PairGivesBack differing
+pair-gives-back m k b u fresh s wrong r enc st hu a p = (λ e. intact r p e, λ ne. record { named = named r p ne; rewritten = λ after q w. rewrite-leaves m k b u h hu wrong s after (st .whole) valid a q w })
   where
     h : Shape m k b
     h = stripe-given m k b (length fresh) (enc .told) .0
@@ -147,31 +187,82 @@ mend-gives-back m k b u fresh s wrong after r enc st hu only p = go r p
     valid : Valid m k b s
     valid = enc .written .0
 
-    few : differing m k b wrong s ≤ 1
-    few = few-pass (k + 2) u (differs m b wrong s) only
+    -- it is not refused
+    passes : (f : Refusal) → Locates m k b wrong (located.Refused f) → ⊥
+    passes f p =
+        passes-not f (gives-one (locateRules m k b wrong) _ _
+        (gives-after (stripeRules m k b (length wrong)) (unmendable m k b wrong ∷ []) pass (stripe-passed m k b (length wrong) h (st .whole))
+        (gives-next (λ c. c s valid (few-pass (k + 2) u (differs m b wrong s) (a .at))) refl))
+        (p .told))
 
     -- column u differs, or nothing does
     same : differs m b wrong s u ≡ false → wrong ≡ s
     same e = stripe-ext m k b (h .value .prime .big) (h .filled) wrong s (st .whole) (valid .stripe .whole) (λ l i t hl hi ht.
         by-cases (ℕ-discrete t u)
         (λ q. same-column m b wrong s t (ap (differs m b wrong s) q ∙ e) l i hl hi)
-        (λ q. same-column m b wrong s t (only t ht q) l i hl hi))
+        (λ q. same-column m b wrong s t (a .at t ht q) l i hl hi))
 
-    differ : differs m b wrong s u ≡ true → DifferIn m k b (eqb u) wrong s
-    differ e = record { at = λ t ht. by-cases (ℕ-discrete t u) (λ q. ap (differs m b wrong s) q ∙ e ∙ sym (eq-eqb u t (sym q))) (λ q. only t ht q ∙ sym (ne-eqb u t (λ d. q (sym d)))) }
-
-    go : (r : Mended) → Mends m k b wrong after r → (after ≡ s) × (wrong ≡ s → r ≡ mended.Intact) × (wrong ≢ s → r ≡ mended.Column u)
-    go mended.Intact p =
-        let e : wrong ≡ s = near m k b h wrong s (intact-valid p) valid (omega (arith, few)) in
-        (p .kept refl ∙ e, λ _. refl, λ ne. absurd (ne e))
-    go (mended.Column v) p = pick (differs m b wrong s u) refl
+    differ : wrong ≢ s → OneDiffers m k b wrong u
+    differ ne = record {
+      inside = hu;
+      other = s;
+      valid = valid;
+      differ = record {
+        at = λ t ht. by-cases (ℕ-discrete t u) (λ q. ap (differs m b wrong s) q ∙ so (differs m b wrong s u) refl ∙ sym (eq-eqb u t (sym q))) (λ q. a .at t ht q ∙ sym (ne-eqb u t (λ d. q (sym d))));
+      };
+    }
       where
-        pick : (d : Bool) → differs m b wrong s u ≡ d → (after ≡ s) × (wrong ≡ s → mended.Column v ≡ mended.Intact) × (wrong ≢ s → mended.Column v ≡ mended.Column u)
-        pick true e =
-            let (a, c) = one-wrong m k b h wrong after s v u (p .named v refl) hu (p .valid refl) valid (p .differed refl) (differ e) in
-            (c, λ q. absurd (not-one m k b h wrong after v (p .named v refl) (rw q valid) (p .valid refl) (p .differed refl)), λ _. ap mended.Column a)
-        pick false e = absurd (not-one m k b h wrong after v (p .named v refl) (rw (same e) valid) (p .valid refl) (p .differed refl))
-    go (mended.Refused f) p =
-        absurd (passes-not f (gives-one (mendRules m k b wrong) _ _
-        (gives-after (stripeRules m k b (length wrong)) (unmendable m k b wrong ∷ []) pass (stripe-passed m k b (length wrong) h (st .whole)) (gives-next (λ c. c s valid few) refl))
-        (p .told)))
+        so : (d : Bool) → differs m b wrong s u ≡ d → d ≡ true
+        so true e = refl
+        so false e = absurd (ne (same e))
+
+    intact : (r : Located) → Locates m k b wrong r → wrong ≡ s → r ≡ located.Intact
+    intact located.Intact p e = refl
+    intact (located.Column v) p e = p .found refl .intact .1 (rw e valid)
+    intact (located.Refused f) p e = absurd (passes f p)
+
+    named : (r : Located) → Locates m k b wrong r → wrong ≢ s → r ≡ located.Column u
+    named located.Intact p ne = p .found refl .named u .1 (differ ne)
+    named (located.Column v) p ne = p .found refl .named u .1 (differ ne)
+    named (located.Refused f) p ne = absurd (passes f p)
+
+-- ---- what mend promised
+
+pub pair-mends : PairMends
+unfolding PairMends
+pair-mends m k b before after located.Intact q p =
+    let e = p .kept refl in
+    let v = p .looked .found refl .intact .0 refl in (
+      record {
+        told = p .looked .told;
+        valid = λ _. rw e v;
+        differed = λ _. record { at = λ t ht. rw e (column-same m b before before t (λ l i hl hi. refl)) ∙ sym (ne-eqb 129 t (λ x. omega (arith, places-most (locate-passed m k b before (p .looked .told) .0)))) };
+        kept = λ _. e;
+        named = λ u x. absurd (let z : _≡_ {A = ℕ} 0 1 = cc in omega arith);
+      },
+      λ u x. absurd (let z : _≡_ {A = ℕ} 0 1 = cc in omega arith),
+    )
+pair-mends m k b before after (located.Column u) q p =
+    let h = locate-passed m k b before (p .looked .told) .0 in
+    let o = p .looked .found refl .named u .0 refl in
+    let but : AgreesBut m k b u before (o .other) = record { at = λ t ht ne. o .differ .at t ht ∙ ne-eqb u t (λ e. ne (sym e)) } in
+    let (done, e) = rewrite-leaves m k b u h (o .inside) before (o .other) after (locate-passed m k b before (p .looked .told) .1) (o .valid) but q (p .rewrote u refl) in (
+      record {
+        told = p .looked .told;
+        valid = λ _. rw e (o .valid);
+        differed = λ _. rw e (o .differ);
+        kept = λ x. absurd (omega (arith, o .inside, places-most h));
+        named = λ w x. let same : u ≡ w = cc in rw same at (o .inside);
+      },
+      λ w x. done,
+    )
+pair-mends m k b before after (located.Refused f) q p = (
+  record {
+    told = p .looked .told;
+    valid = λ x. absurd (passes-not f (sym x));
+    differed = λ x. absurd (passes-not f (sym x));
+    kept = λ _. p .kept refl;
+    named = λ u x. absurd (let z : _≡_ {A = ℕ} 0 1 = cc in omega arith);
+  },
+  λ u x. absurd (let z : _≡_ {A = ℕ} 0 1 = cc in omega arith),
+)

@@ -2,7 +2,8 @@
 pub mod Laid
 pub mod Checked
 pub mod Restored
-pub mod Mended
+pub mod Located
+pub mod Rewritten
 pub mod Shown
 pub mod Determined
 pub mod EndToEnd

@@ -1,8 +1,10 @@
 -- Each promise determines its result: two results that meet it are equal. Each statement is a type, which proofs/Determined inhabits.
 -- Of a part that show hands out, the place and the bytes are determined: `SamePart`. The name under which the logic follows a reference is no part
 -- of the answer.
---   EncodesOne, ChecksOne, RestoresOne, MendsOne, PlacesOne, ShowsOne    the promise of each call
+--   EncodesOne, ChecksOne, RestoresOne, LocatesOne, RewritesOne, PlacesOne, ShowsOne    the promise of each call
+--   MendsOne                     what mend promised, which no call promises
 --   RestoresUnread               what stands in an absent column's place alters neither restore's answer nor the bench
+--   RewritesUnread               what stands in the column that is named alters neither rewrite's answer nor what it leaves
 --   PlacesUnread, ShowsUnread    no byte of stripe or bench alters where a column is shown: their lengths alone are asked
 use mathlib.Core.Path.{_≡_}
 use mathlib.Core.List.{List}
@@ -12,11 +14,15 @@ use Rattle.evenodd.specs.declared.encodes.Encoded.{Encoded}
 use Rattle.evenodd.specs.Encodes.{Encodes}
 use Rattle.evenodd.specs.Checks.{Checks}
 use lib.ListN.{length}
-use Rattle.parity.specs.Presence.{Agrees}
+use Rattle.parity.specs.Presence.{Agrees, AgreesBut}
 use Rattle.inputs.specs.declared.maps.Map.{Map}
-use Rattle.evenodd.specs.declared.mends.Mended.{Mended}
+use Rattle.evenodd.specs.declared.locates.Located.{Located}
 use Rattle.evenodd.specs.declared.restores.Restored.{Restored}
+use Rattle.evenodd.specs.declared.rewrites.Rewritten.{Rewritten}
+use Rattle.evenodd.specs.declared.rewrites.Rewritten.the-variants.{Done, Refused}
 use Rattle.evenodd.specs.Restores.{Restores}
+use Rattle.evenodd.specs.Locates.{Locates}
+use Rattle.evenodd.specs.Rewrites.{Rewrites}
 use Rattle.evenodd.specs.Mends.{Mends}
 use denote.Ref.{RefT, now}
 use Rattle.evenodd.specs.declared.shows.Place.{Place}
@@ -36,8 +42,23 @@ unfoldable pub RestoresUnread : Type 0
 RestoresUnread = (m k b : ℕ) (map : Map) (s other bench x : List ℕ) (r : Restored)
     → Restores m k b map s bench x r → length other ≡ length s → Agrees m k b (map .places) s other → Restores m k b map other bench x r
 
+unfoldable pub LocatesOne : Type 0
+LocatesOne = (m k b : ℕ) (s : List ℕ) (r q : Located) → Locates m k b s r → Locates m k b s q → r ≡ q
+
+unfoldable pub RewritesOne : Type 0
+RewritesOne = (m k b column : ℕ) (s x y : List ℕ) (r q : Rewritten) → Rewrites m k b column s x r → Rewrites m k b column s y q → (r ≡ q) × (x ≡ y)
+
+-- what is left of a stripe: x where it was rewritten, itself where that was refused
+abbrev pub leftOf : Rewritten → List ℕ → List ℕ → List ℕ
+leftOf Done x other = x
+leftOf (Refused f) x other = other
+
+unfoldable pub RewritesUnread : Type 0
+RewritesUnread = (m k b column : ℕ) (s other x : List ℕ) (r : Rewritten) → Rewrites m k b column s x r → length other ≡ length s → AgreesBut m k b column s other
+    → Rewrites m k b column other (leftOf r x other) r
+
 unfoldable pub MendsOne : Type 0
-MendsOne = (m k b : ℕ) (s x y : List ℕ) (r q : Mended) → Mends m k b s x r → Mends m k b s y q → (r ≡ q) × (x ≡ y)
+MendsOne = (m k b : ℕ) (s x y : List ℕ) (r q : Located) → Mends m k b s x r → Mends m k b s y q → (r ≡ q) × (x ≡ y)
 
 unfoldable pub PlacesOne : Type 0
 PlacesOne = (m k b : ℕ) (map : Map) (s bench : List ℕ) (column : ℕ) (r q : Place)

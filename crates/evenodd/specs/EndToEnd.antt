@@ -2,30 +2,38 @@
 --   OneOrNothing       if exactly one valid stripe agrees with the columns that are present, restore gives it: stripe and bench together are that one.
 --                      Otherwise it gives nothing, and says why: 4 exactly when two different ones agree, 5 exactly when none does
 --   RestoreGivesBack   encode, lose at most two columns, whatever stands in their places: restore gives them back
---   MendGivesBack      encode, change one column in any way, or in none: mend gives the stripe back, and names the column if it was changed
+--   PairGivesBack      encode, change one column in any way, or in none: locate names it if it was changed, and rewrite of it gives the stripe back; if
+--                      none was changed locate says intact
+--   PairMends          locate, and then rewrite of the column that it names, keep what mend promised: that rewrite passes, and leaves what mend left
+--   NothingToRewrite   where locate gives 6, rewrite of any column gives 5: there is nothing to rewrite
+--   RewriteKeepsValid  a valid stripe of which any column is rewritten stays as it is
 use mathlib.Core.Path.{_≡_}
 use mathlib.Core.Logic.{_≢_, _↔_, _⊎_}
-use mathlib.Core.Bool.{Bool, false, cond}
+use mathlib.Core.Bool.{Bool, cond}
 use mathlib.Core.List.{List}
 use Prim.Native.Nat.{ℕ, _+_, _-_, _≤_, _<_}
 use lib.ListN.{length}
 use Rattle.parity.specs.Shape.{Shape, benchLength}
 use Rattle.parity.specs.Stripe.{byte, Stripe, Valid}
-use Rattle.parity.specs.Presence.{present, absences, differs, Agrees}
+use Rattle.parity.specs.Presence.{present, absences, Agrees, AgreesBut}
 use Rattle.inputs.specs.declared.maps.Map.{Map}
 use Rattle.inputs.specs.declared.shapes.Refusal.{Refusal}
-use Rattle.inputs.specs.declared.shapes.Refusal.the-variants.{Ambiguous, Contradicted}
+use Rattle.inputs.specs.declared.shapes.Refusal.the-variants.{Ambiguous, Contradicted, Unmendable}
 use Rattle.inputs.specs.Refusals.{pass}
 use Rattle.inputs.specs.Absent.{Stray}
 use Rattle.inputs.specs.Truth.{TrueMap}
 use Rattle.evenodd.specs.declared.encodes.Encoded.the-variants as encoded
-use Rattle.evenodd.specs.declared.mends.Mended.{Mended}
-use Rattle.evenodd.specs.declared.mends.Mended.the-variants as mended
+use Rattle.evenodd.specs.declared.locates.Located.{Located}
+use Rattle.evenodd.specs.declared.locates.Located.the-variants as located
 use Rattle.evenodd.specs.declared.restores.Restored.{Restored}
 use Rattle.evenodd.specs.declared.restores.Restored.the-variants as restored
+use Rattle.evenodd.specs.declared.rewrites.Rewritten.{Rewritten}
+use Rattle.evenodd.specs.declared.rewrites.Rewritten.the-variants as rewritten
 use Rattle.evenodd.specs.Encodes.{Encodes}
 use Rattle.evenodd.specs.Restores.{verdictOf, countOf, firstOf, secondOf, Benched, Restores}
-use Rattle.evenodd.specs.Mends.{Mends}
+use Rattle.evenodd.specs.Locates.{Locates}
+use Rattle.evenodd.specs.Rewrites.{Rewrites}
+use Rattle.evenodd.specs.Mends.{Mends, Pair}
 use Rattle.evenodd.specs.Shows.{half}
 
 -- v is a valid stripe that agrees with the columns of s that are present
@@ -84,7 +92,24 @@ RestoreGivesBack = (m k b : ℕ) (map : Map) (fresh s lost before after : List �
     → length lost ≡ length s → Agrees m k b (map .places) s lost → length before ≡ benchLength m b → TrueMap map → (Stray k (map .places) → ⊥) → absences k (map .places) ≤ 2
     → Restores m k b map lost before after r → GivenBack m b s before after r
 
-unfoldable pub MendGivesBack : Type 0
-MendGivesBack = (m k b u : ℕ) (fresh s wrong after : List ℕ) (r : Mended) → Encodes m k b fresh s encoded.Done
-    → Stripe m k b wrong → u < k + 2 → ((t : ℕ) → t < k + 2 → t ≢ u → differs m b wrong s t ≡ false)
-    → Mends m k b wrong after r → (after ≡ s) × (wrong ≡ s → r ≡ mended.Intact) × (wrong ≢ s → r ≡ mended.Column u)
+-- r names column u, and rewrite of it, whatever it answers and leaves, is done and leaves s
+pub record NamedAndRewritten (m k b u : ℕ) (wrong s : List ℕ) (r : Located) : Type 0 where
+  pub named : r ≡ located.Column u
+  pub rewritten : (after : List ℕ) (q : Rewritten) → Rewrites m k b u wrong after q → (q ≡ rewritten.Done) × (after ≡ s)
+
+unfoldable pub PairGivesBack : Type 0
+PairGivesBack = (m k b u : ℕ) (fresh s wrong : List ℕ) (r : Located) → Encodes m k b fresh s encoded.Done
+    → Stripe m k b wrong → u < k + 2 → AgreesBut m k b u wrong s
+    → Locates m k b wrong r → (wrong ≡ s → r ≡ located.Intact) × (wrong ≢ s → NamedAndRewritten m k b u wrong s r)
+
+unfoldable pub PairMends : Type 0
+PairMends = (m k b : ℕ) (before after : List ℕ) (r : Located) (q : Rewritten) → Pair m k b before after r q
+    → Mends m k b before after r × ((u : ℕ) → r ≡ located.Column u → q ≡ rewritten.Done)
+
+unfoldable pub NothingToRewrite : Type 0
+NothingToRewrite = (m k b column : ℕ) (s after : List ℕ) (q : Rewritten) → Locates m k b s (located.Refused Unmendable) → column < k + 2
+    → Rewrites m k b column s after q → q ≡ rewritten.Refused Contradicted
+
+unfoldable pub RewriteKeepsValid : Type 0
+RewriteKeepsValid = (m k b column : ℕ) (s after : List ℕ) (q : Rewritten) → Shape m k b → Valid m k b s → column < k + 2
+    → Rewrites m k b column s after q → (q ≡ rewritten.Done) × (after ≡ s)

@@ -3,7 +3,8 @@ pub mod Encodes
 pub mod Checks
 pub mod Fills
 pub mod Restores
-pub mod Patches
+pub mod Locates
+pub mod Rewrites
 pub mod Mends
 pub mod Shows
 pub mod Determined

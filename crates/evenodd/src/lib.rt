@@ -1,9 +1,10 @@
-// Stripes kept in the EVENODD code: encode, check, restore, mend and show. Nothing here asks anything of its caller: bad input is
+// Stripes kept in the EVENODD code: encode, check, restore, locate, rewrite and show. Nothing here asks anything of its caller: bad input is
 // refused by number, and a refused call changes no byte that was lent. Shapes, maps and refusals are handed on from `inputs`.
 mod checks;
 mod encodes;
-mod mends;
+mod locates;
 mod restores;
+mod rewrites;
 mod shows;
 
 pub use checks::Checked;
@@ -16,10 +17,12 @@ pub use inputs::Map;
 pub use inputs::Marked;
 pub use inputs::Refusal;
 pub use inputs::judge;
-pub use mends::Mended;
-pub use mends::mend;
+pub use locates::Located;
+pub use locates::locate;
 pub use restores::Restored;
 pub use restores::restore;
+pub use rewrites::Rewritten;
+pub use rewrites::rewrite;
 pub use shows::Place;
 pub use shows::place_of;
 pub use shows::show;

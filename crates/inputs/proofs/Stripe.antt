@@ -1,4 +1,4 @@
--- Laws of the rules of encode and check, which those of mend, restore and show begin with: n is the length of a stripe.
+-- Laws of the rules of encode and check, which those of locate, rewrite, restore and show begin with: n is the length of a stripe.
 --   stripe-passed   the shape is good and the stripe has its length: they pass
 --   stripe-given    and where they pass, so it is
 use mathlib.Core.Path.{_≡_, refl}

@@ -1,9 +1,10 @@
--- Every rule of refusal, once and by name, and the order in which each call asks them. The refusal of the first rule that applies is given.
+-- Every rule of refusal, once and by name, and the orders in which calls ask them. The refusal of the first rule that applies is given.
 --   wrongM m                      1: m is no odd prime from 3 to 127
 --   stripeLengthDiffers m k b n   2: a stripe is not n bytes
 --   benchLengthDiffers m b n      3: a bench is not n bytes
 --   tooManyAbsent k map           4: three or more columns are absent
 --   contradicted m k b map s      5: no valid stripe agrees with every present column of s
+--   contradictedBut m k b u s     5: no valid stripe agrees with every column of s but u
 --   unmendable m k b s            6: no valid stripe differs from s in at most one column
 --   noSuchColumn k column         7: the shape has no column of that number
 --   noSuchPlace place             7: the map has no place of that number
@@ -15,13 +16,13 @@
 --   shapeRules     1, 12, 13: asked first by every call that is given a shape, and by the readers of an image of its header. They let exactly
 --                  the shapes pass (`ShapesPass`)
 --   stripeRules    1, 12, 13, 2: encode and check
---   mendRules      1, 12, 13, 2, 6
 --   mapRules       17, 9: what a map of columns is asked
 --   lentRules      1, 12, 13, 2, 3, 17, 9: what a map, a stripe and a bench are asked first
 --   gapRules       1, 12, 13, 2, 3, 17, 9, 4
 --   restoreRules   1, 12, 13, 2, 3, 17, 9, 4, 5
 --   showRules      1, 12, 13, 2, 3, 17, 9, 7, 4
 --   placeRules     17, 7: marking a place
+-- Those of locate and rewrite, which begin with `stripeRules`, stand with their promises, and those of an image's readers with the format.
 use mathlib.Core.Path.{_≡_}
 use mathlib.Core.Logic.{_≢_, _⊎_}
 use mathlib.Core.List.{List, [], _∷_, _++_}
@@ -29,7 +30,7 @@ use Prim.Native.Nat.{ℕ, _+_, _≤_, _<_}
 use lib.ListN.{length}
 use Rattle.parity.specs.Shape.{OddPrime, stripeLength, benchLength}
 use Rattle.parity.specs.Stripe.{Valid}
-use Rattle.parity.specs.Presence.{absences, differing, Agrees}
+use Rattle.parity.specs.Presence.{absences, differing, Agrees, AgreesBut}
 use Rattle.inputs.specs.declared.maps.Map.{Map}
 use Rattle.inputs.specs.declared.shapes.Refusal.the-variants as refusal
 use Rattle.inputs.specs.Refusals.{Rule}
@@ -50,6 +51,9 @@ tooManyAbsent k map = record { condition = 3 ≤ absences k (map .places); refus
 
 abbrev pub contradicted : ℕ → ℕ → ℕ → Map → List ℕ → Rule
 contradicted m k b map s = record { condition = (v : List ℕ) → Valid m k b v → Agrees m k b (map .places) s v → ⊥; refusal = refusal.Contradicted }
+
+abbrev pub contradictedBut : ℕ → ℕ → ℕ → ℕ → List ℕ → Rule
+contradictedBut m k b u s = record { condition = (v : List ℕ) → Valid m k b v → AgreesBut m k b u s v → ⊥; refusal = refusal.Contradicted }
 
 abbrev pub unmendable : ℕ → ℕ → ℕ → List ℕ → Rule
 unmendable m k b s = record { condition = (v : List ℕ) → Valid m k b v → differing m k b s v ≤ 1 → ⊥; refusal = refusal.Unmendable }
@@ -79,9 +83,6 @@ shapeRules m k b = wrongM m ∷ wrongK m k ∷ wrongB b ∷ []
 
 abbrev pub stripeRules : ℕ → ℕ → ℕ → ℕ → List Rule
 stripeRules m k b n = shapeRules m k b ++ (stripeLengthDiffers m k b n ∷ [])
-
-abbrev pub mendRules : ℕ → ℕ → ℕ → List ℕ → List Rule
-mendRules m k b s = stripeRules m k b (length s) ++ (unmendable m k b s ∷ [])
 
 abbrev pub mapRules : ℕ → Map → List Rule
 mapRules k map = lyingMap map ∷ strayColumn k map ∷ []

@@ -6,10 +6,12 @@
 --   other-row      the other cells of its column
 --   other-column   the cells of another column
 --   cell-kept      the cells of the first n columns, where all bytes of these are as they were
+--   cells-fit, cells-room   how many cells of b bytes n bytes have room for
 use mathlib.Core.Path.{_≡_, sym, ap, _∙_}
 use mathlib.Core.Logic.{_≢_}
 use mathlib.Core.List.{List}
-use Prim.Native.Nat.{ℕ, _+_, _*_, _-_, _≤_, _<_}
+use Prim.Native.Nat.{ℕ, _+_, _*_, _-_, _/_, _≤_, _<_}
+use native.Mathlib.Nat.{div-mul-le-self, le-div-iff-mul-le, le-trans, mul-le-mul-right}
 use native.Mathlib.Omega.{arith}
 use lib.Arith.{digits-lt}
 use lib.ListN.{getD}
@@ -57,3 +59,9 @@ pub cell-kept : (m b n : ℕ) (s v : List ℕ) → ((p : ℕ) → p < n * column
     → (l r t : ℕ) → l < b → r < m - 1 → t < n → lane m b v l r t ≡ lane m b s l r t
 unfolding byte columnLength
 cell-kept m b n s v kept l r t hl hr ht = kept (t * columnLength m b + (r * b + l)) (digits-lt ht (digits-lt hr hl))
+
+pub cells-fit : (r b n : ℕ) → 0 < b → r * b ≤ n → r ≤ n / b
+cells-fit r b n full h = le-div-iff-mul-le {k = b} {x = r} {y = n} full .1 h
+
+pub cells-room : (r b n : ℕ) → r ≤ n / b → r * b ≤ n
+cells-room r b n h = le-trans (mul-le-mul-right b h) (div-mul-le-self n b)

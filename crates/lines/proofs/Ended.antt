@@ -177,7 +177,7 @@ module _ (m k : ℕ) (a s : Lane) (u v : ℕ) (same : (r t : ℕ) → r < m - 1 
       (λ z. second-without m u v s r t z ∙ sym (second-without m u v a r t z))
       (λ z. without-other m u v s r t q z ∙ same r t hr ht q z ∙ sym (without-other m u v a r t q z)))
 
-  pub ended-same : (e i h n : ℕ) → h < k + 2 → n ≤ k + 2 → ended m (without u v s) e i h n ≡ ended m (without u v a) e i h n
+  ended-same : (e i h n : ℕ) → h < k + 2 → n ≤ k + 2 → ended m (without u v s) e i h n ≡ ended m (without u v a) e i h n
   unfolding ended
   ended-same e i h n low most =
       ap₂ _⊕_

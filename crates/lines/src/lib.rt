@@ -96,6 +96,17 @@ pub fn group_end(t: usize, end: usize) -> usize
     end
 }
 
+// The smaller of two numbers: a band has as many lines as have room, or as are left.
+pub fn fewer(x: usize, y: usize) -> usize
+    requires { ⌜ (0 < x) × (0 < y) ⌝ }
+    ensures { λ r. ⌜ (0 < r) × (r ≤ x) × (r ≤ y) × (y ≤ x → r ≡ y) ⌝ }
+{
+    if x < y {
+        return x;
+    }
+    y
+}
+
 // Puts the place of the cell in row r of column t after the first n places of `at`, unless it is imaginary. How many there are then.
 pub fn add_place(at: &mut [usize], n: usize, g: Grid, t: usize, r: usize) -> usize
     requires { ⌜ (n < length (now at)) × (t < 256) × Sized (g .m) (g .b) (g .column) ⌝ }

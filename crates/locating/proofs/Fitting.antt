@@ -2,14 +2,12 @@
 --   fit-data, fit-h, fit-d   a data column, H and D
 --   fit-none               no column
 --   fit-holds, holds-fit   column u can exactly when its candidate obeys the equations
---   rows-are, diagonals-are   the amounts of lane l, as they are summed
 --   judged                 so what the amounts of one lane that breaks say of it is said of the whole stripe
 use mathlib.Core.Path.{_≡_, sym, ap, ap₂, _∙_}
 use mathlib.Core.List.{List}
 use Prim.Native.Nat.{ℕ, _+_, _-_, _%_, _≤_, _<_}
 use native.Mathlib.Decide.{ℕ-discrete, decLt}
 use native.Mathlib.Omega.{arith}
-use lib.ListN.{getD}
 use Rattle.parity.specs.Xor.{_⊕_}
 use Rattle.parity.specs.Shape.{Prime}
 use Rattle.parity.specs.Equations.{Lane, back, amountH, amountD, Holds}
@@ -19,13 +17,10 @@ use Rattle.parity.proofs.Xor.{⊕-self, ⊕-eq}
 use Rattle.parity.proofs.Candidate.{rowAmount, row-amount, candidate-H, candidate-D}
 use Rattle.parity.proofs.Suspects.{hold-h, hold-d, amounts-hold, candidate-H-h, candidate-H-d, candidate-D-h, candidate-D-d, one-suspect}
 use Rattle.parity.proofs.Theorems.{prime-served}
-use Rattle.cells.specs.Runs.{Put}
-use Rattle.cells.proofs.Puts.{put-start}
 use Rattle.lines.proofs.Lines.{back-lt}
-use Rattle.locating.specs.Locating.{Suspects, broken, TurnedAmounts, Fit, Blames}
+use Rattle.locating.specs.Locating.{Suspects, TurnedAmounts, Fit, Blames}
 use Rattle.locating.specs.declared.Suspect.{Suspect}
 use Rattle.locating.specs.declared.Suspect.the-variants.{Nothing, Column, Nobody}
-use Rattle.locating.proofs.Lanes.{broken-row, broken-diagonal}
 
 module _ (m k : ℕ) (h d : ℕ → ℕ) where
   pub fit-data : (u : ℕ) → u < k → TurnedAmounts m h d u → Fit m k h d u
@@ -73,13 +68,6 @@ module _ (m k : ℕ) (big : 1 < m) (few : k ≤ m) (a : Lane) (h d : ℕ → ℕ
     rows = λ e i hi. diagonals i hi ∙ sym (candidate-H-d m k a i) ∙ ap (λ (x : ℕ). amountD m k (candidate m k a x) i) (sym e) ∙ hold-d m k (candidate m k a u) v i hi;
     diagonals = λ e i hi. row i hi ∙ sym (candidate-D-h m k a i) ∙ ap (λ (x : ℕ). amountH m k (candidate m k a x) i) (sym e) ∙ hold-h m k (candidate m k a u) v i hi;
   }
-
-module _ (m k : ℕ) (few : k ≤ m) (a : Lane) {n : ℕ} {w v : List ℕ} where
-  pub rows-are : n ≡ m → Put w v 0 n (broken m k a 0) → (i : ℕ) → i < m → getD v i 0 ≡ rowAmount m k a i
-  rows-are e p i h = put-start p i (omega arith) ∙ broken-row m k a few i h
-
-  pub diagonals-are : 1 < m → n ≡ m - 1 → Put w v 0 n (broken m k a 1) → (i : ℕ) → i < m - 1 → getD v i 0 ≡ amountD m k a i
-  diagonals-are big e p i h = put-start p i (omega arith) ∙ broken-diagonal m k a few big i h
 
 module _ (m k b : ℕ) (few : k ≤ m) (odd : m % 2 ≡ 1) (prime : Prime m) (s : List ℕ) (l : ℕ) (hl : l < b) (breaks : Holds m k (lane m b s l) → ⊥)
     (h d : ℕ → ℕ) (rows : (i : ℕ) → i < m → h i ≡ rowAmount m k (lane m b s l) i) (diagonals : (i : ℕ) → i < m - 1 → d i ≡ amountD m k (lane m b s l) i) where

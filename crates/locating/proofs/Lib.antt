@@ -1,3 +1,4 @@
 pub mod Lanes
+pub mod Summing
 pub mod Fitting
 pub mod Confirmed

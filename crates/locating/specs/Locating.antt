@@ -6,11 +6,11 @@
 --                           does, and the columns other than one fit none, whichever that is
 -- In parts:
 --   Searched g s            a stripe in which that column can be looked for
---   broken m k a e i        the amount that row i (e = 0) or diagonal i (e = 1) of lane a breaks by: the line with its end, and for a diagonal S
---   RoomWithS g s w         w is room for two cells, of which the second is the stripe's S
+--   RowBreaks g s i         row i of the stripe s breaks
 --   First r n f             r is the first number below n at which f is not zero; n where there is none
---   Odd r b n f             r is a lane below b at which not all of f r 0 to f r (n - 1) are zero; b or more where there is none
---   Breaks m k b s r        r is a lane below b whose equations do not hold; b or more where there is none
+--   OfLane g s n l          lane l of the stripe s, and room of n bytes for a column of it and its imaginary row
+--   Summed m a n h d        h and d are the rows and the diagonals of lane a, the imaginary row and diagonal m - 1 too, over the first n columns
+--   BreaksBy m k a h d      h and d are the amounts that the rows and the diagonals of lane a break by
 --   Amounts m h d           h and d are as long as there are rows and diagonals to break
 --   Some n f                not all of f 0 to f (n - 1) are zero
 --   TurnedAmounts m h d u   the diagonals' amounts d are the rows' amounts h, turned by u
@@ -20,16 +20,15 @@
 use mathlib.Core.Path.{_≡_}
 use mathlib.Core.Bool.{Bool, true, false}
 use mathlib.Core.List.{List}
-use Prim.Native.Nat.{ℕ, _+_, _-_, _*_, _%_, _≤_, _<_}
+use Prim.Native.Nat.{ℕ, _+_, _-_, _%_, _≤_, _<_}
 use lib.ListN.{length, getD}
 use Rattle.parity.specs.Xor.{_⊕_}
 use Rattle.parity.specs.Shape.{Prime}
-use Rattle.parity.specs.Equations.{Lane, back, Holds}
+use Rattle.parity.specs.Equations.{Lane, back, amountH, amountD, Holds}
 use Rattle.parity.specs.Stripe.{lane}
 use Rattle.parity.specs.Candidate.{FitsBut}
 use Rattle.lines.specs.declared.Grid.{Grid}
-use Rattle.lines.specs.Lines.{Laid}
-use Rattle.lines.specs.Places.{window}
+use Rattle.lines.specs.Lines.{line, Laid}
 use Rattle.locating.specs.declared.Suspect.{Suspect}
 use Rattle.locating.specs.declared.Suspect.the-variants.{Nothing, Column, Nobody}
 
@@ -51,26 +50,32 @@ pub record Searched (g : Grid) (s : List ℕ) : Type 0 where
   pub odd : g .m % 2 ≡ 1
   pub prime : Prime (g .m)
 
-unfoldable pub broken : ℕ → ℕ → Lane → ℕ → ℕ → ℕ
-broken m k a e i = e * window m k a 1 (m - 1) 0 k ⊕ window m k a e i 0 k
-
-pub record RoomWithS (g : Grid) (s w : List ℕ) : Type 0 where
-  pub searched : Searched g s
-  pub size : length w ≡ 2 * g .b
-  pub special : (l : ℕ) → l < g .b → getD w (g .b + l) 0 ≡ window (g .m) (g .k) (lane (g .m) (g .b) s l) 1 (g .m - 1) 0 (g .k)
+pub record RowBreaks (g : Grid) (s : List ℕ) (i : ℕ) : Type 0 where
+  pub inside : i < g .m - 1
+  pub there : ((l : ℕ) → l < g .b → amountH (g .m) (g .k) (lane (g .m) (g .b) s l) i ≡ 0) → ⊥
 
 pub record First (r n : ℕ) (f : ℕ → ℕ) : Type 0 where
   pub within : r ≤ n
   pub before : (l : ℕ) → l < r → f l ≡ 0
   pub there : r < n → f r ≡ 0 → ⊥
 
-pub record Odd (r b n : ℕ) (f : ℕ → ℕ → ℕ) : Type 0 where
-  pub there : r < b → ((i : ℕ) → i < n → f r i ≡ 0) → ⊥
-  pub none : b ≤ r → (l i : ℕ) → l < b → i < n → f l i ≡ 0
+pub record OfLane (g : Grid) (s : List ℕ) (n l : ℕ) : Type 0 where
+  pub laid : Laid g s
+  pub inside : l < g .b
+  pub room : n ≡ g .m
 
-pub record Breaks (m k b : ℕ) (s : List ℕ) (r : ℕ) : Type 0 where
-  pub there : r < b → Holds m k (lane m b s r) → ⊥
-  pub none : b ≤ r → Sound m k b s
+pub record Summed (m : ℕ) (a : Lane) (n : ℕ) (h d : List ℕ) : Type 0 where
+  pub rows : length h ≡ m
+  pub diagonals : length d ≡ m
+  pub row : (i : ℕ) → i < m → getD h i 0 ≡ line m a 0 i n
+  pub diagonal : (i : ℕ) → i < m → getD d i 0 ≡ line m a 1 i n
+
+pub record BreaksBy (m k : ℕ) (a : Lane) (h d : List ℕ) : Type 0 where
+  pub rows : length h ≡ m
+  pub diagonals : length d ≡ m
+  pub row : (i : ℕ) → i < m - 1 → getD h i 0 ≡ amountH m k a i
+  pub last : getD h (m - 1) 0 ≡ 0
+  pub diagonal : (i : ℕ) → i < m - 1 → getD d i 0 ≡ amountD m k a i
 
 pub record Amounts (m : ℕ) (h d : List ℕ) : Type 0 where
   pub rows : length h ≡ m

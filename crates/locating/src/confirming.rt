@@ -1,8 +1,8 @@
 // The wrong column of a stripe, if one alone is: the suspect of one lane, confirmed by every lane.
 use crate::Suspect;
-use crate::find_suspect;
+use crate::judge_row;
 use lines::Grid;
-ghost use Rattle.locating.specs.Locating.{Suspects, Searched, Located};
+ghost use Rattle.locating.specs.Locating.{Suspects, Searched, Located, RowBreaks};
 ghost use Rattle.locating.specs.declared.Suspect.the-variants.{Column};
 
 // Column u alone can be the wrong one: it is, where the others fit a valid stripe.
@@ -16,14 +16,30 @@ fn confirm(s: &[u8], g: Grid, u: usize) -> Suspect
     Suspect::Nobody
 }
 
-// Which column of the stripe is the wrong one: Nothing where the stripe is valid, Nobody where no column alone is.
-pub fn locate(s: &[u8], g: Grid) -> Suspect
-    requires { ⌜ Searched g (now s) ⌝ }
+// Which column of a stripe whose row i breaks is the wrong one.
+fn locate_by_row(s: &[u8], g: Grid, i: usize) -> Suspect
+    requires { ⌜ Searched g (now s) × RowBreaks g (now s) i ⌝ }
     ensures { λ r. ⌜ Located (g .m) (g .k) (g .b) (now (s .entry)) r ⌝ }
 {
-    match find_suspect(s, g) {
+    match judge_row(s, g, i) {
         Suspect::Nothing => Suspect::Nothing,
         Suspect::Nobody => Suspect::Nobody,
         Suspect::Column(u) => confirm(s, g, u),
     }
+}
+
+// Which column of the stripe is the wrong one: Nothing where the stripe is valid, Nobody where no column alone is. Where no row breaks, the columns
+// other than D fit.
+pub fn locate(s: &[u8], g: Grid) -> Suspect
+    requires { ⌜ Searched g (now s) ⌝ }
+    ensures { λ r. ⌜ Located (g .m) (g .k) (g .b) (now (s .entry)) r ⌝ }
+{
+    let i = counting::find_broken_row(s, g);
+    if i < g.m - 1 {
+        return locate_by_row(s, g, i);
+    }
+    if counting::fits_but(s, g, g.k) {
+        return Suspect::Nothing;
+    }
+    Suspect::Column(g.k + 1)
 }

@@ -7,8 +7,9 @@ fn proved_cases(out: &mut [u8], at: usize) -> usize {
     let a = cases::encodings(out, at);
     let b = cases::two_absent(out, a);
     let c = cases::wrong_byte(out, b);
-    let d = cases::imaginary_column(out, c);
-    cases::three_absent(out, d)
+    let d = cases::wrong_column(out, c);
+    let e = cases::imaginary_column(out, d);
+    cases::three_absent(out, e)
 }
 
 // Lengths of a stripe and of a bench.
@@ -31,7 +32,8 @@ fn other_cases(out: &mut [u8], at: usize) -> usize {
     let d = gap_cases(out, c);
     let e = others::shapes_and_benches(out, d);
     let f = others::shapes_and_lengths(out, e);
-    others::wrong_cells(out, f)
+    let g = others::shapes_and_columns(out, f);
+    others::wrong_cells(out, g)
 }
 
 // Images.

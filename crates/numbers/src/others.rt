@@ -3,10 +3,11 @@ use cases::five;
 use say::check_line;
 use say::contents_line;
 use say::encode_line;
-use say::mend_line;
+use say::locate_line;
 use say::read_line;
 use say::report_line;
 use say::restore_line;
+use say::rewrite_line;
 use say::show_line;
 use words::say_head;
 use words::say_number;
@@ -119,19 +120,25 @@ pub(crate) fn shapes_and_benches(out: &mut [u8], at: usize) -> usize {
     restore_line(out, k, b"b+bench", [3, 3, 0], map, &c1, &mut short)
 }
 
-// One wrong number of the shape, beside a stripe of another length, or a place and a column from k + 2 on.
+// One wrong number of the shape, beside a stripe of another length.
 pub(crate) fn shapes_and_lengths(out: &mut [u8], at: usize) -> usize {
     let mut c1 = [1u8, 2, 4, 8, 16, 32, 21, 42, 57, 30];
-    let bench = [161u8, 162, 163, 164];
     let k = encode_line(out, at, b"k+length", 3, 4, 1, &mut c1);
-    let b = mend_line(out, k, b"b+length", 3, 3, 4097, &mut c1);
+    locate_line(out, k, b"b+length", 3, 3, 4097, &c1)
+}
+
+// One wrong number of the shape, beside a column from k + 2 on, and in the second line a place from there on too.
+pub(crate) fn shapes_and_columns(out: &mut [u8], at: usize) -> usize {
+    let mut c1 = [1u8, 2, 4, 8, 16, 32, 21, 42, 57, 30];
+    let bench = [161u8, 162, 163, 164];
+    let b = rewrite_line(out, at, b"b+column", [3, 3, 4097], &mut c1, 9);
     let map = five();
     let stray = map.mark_present(6);
     show_line(out, b, b"k+column", [3, 4, 1], stray, &c1, &bench, 9)
 }
 
-// Two lanes wrong in two columns, and a wrong cell that lies in S.
-pub(crate) fn wrong_cells(out: &mut [u8], at: usize) -> usize {
+// Two lanes wrong in two columns.
+fn wrong_lanes(out: &mut [u8], at: usize) -> usize {
     let mut lanes = [
         65u8,
         1,
@@ -154,9 +161,17 @@ pub(crate) fn wrong_cells(out: &mut [u8], at: usize) -> usize {
         30,
         30,
     ];
-    let next = mend_line(out, at, b"lanes", 3, 3, 2, &mut lanes);
-    let wrong = [1u8, 2, 4, 9, 16, 32, 21, 42, 57, 30];
-    check_line(out, next, b"08->09", 3, 3, 1, &wrong)
+    let first = locate_line(out, at, b"lanes", 3, 3, 2, &lanes);
+    let second = rewrite_line(out, first, b"lanes", [3, 3, 2], &mut lanes, 0);
+    rewrite_line(out, second, b"lanes", [3, 3, 2], &mut lanes, 1)
+}
+
+// These, and a wrong cell that lies in S, in a stripe that has no column 5.
+pub(crate) fn wrong_cells(out: &mut [u8], at: usize) -> usize {
+    let first = wrong_lanes(out, at);
+    let mut wrong = [1u8, 2, 4, 9, 16, 32, 21, 42, 57, 30];
+    let second = rewrite_line(out, first, b"column=5", [3, 3, 1], &mut wrong, 5);
+    check_line(out, second, b"08->09", 3, 3, 1, &wrong)
 }
 
 // C5 as an image: its contents, its columns in a stripe, and its report.

@@ -7,18 +7,20 @@ use Prim.Native.Nat.{ℕ, _+_}
 use native.Mathlib.Omega.{arith}
 use lib.ListN.{length}
 use Rattle.parity.specs.Shape.{stripeLength, benchLength}
-use Rattle.inputs.specs.Rules.{stripeRules, mendRules, restoreRules, showRules}
+use Rattle.inputs.specs.Rules.{stripeRules, restoreRules, showRules}
+use Rattle.evenodd.specs.Locates.{locateRules}
+use Rattle.evenodd.specs.Rewrites.{rewriteRules}
 use Rattle.image.specs.Reads.{contentsRules, readRules}
 use Rattle.inputs.proofs.Rules.{never-number, equal-of}
 use Rattle.inputs.specs.Determined.{OfBytesOne, AsBytesOne, FindsGapsOne}
 use Rattle.inputs.proofs.Determined.{of-bytes-one, as-bytes-one, finds-gaps-one}
-use Rattle.evenodd.specs.Determined.{PlacesOne, RestoresOne, MendsOne, EncodesOne, ChecksOne}
-use Rattle.evenodd.proofs.Determined.{places-one, restores-one, mends-one, encodes-one, checks-one}
+use Rattle.evenodd.specs.Determined.{PlacesOne, RestoresOne, LocatesOne, RewritesOne, EncodesOne, ChecksOne}
+use Rattle.evenodd.proofs.Determined.{places-one, restores-one, locates-one, rewrites-one, encodes-one, checks-one}
 use Rattle.image.specs.declared.answers.Contents.{Contents}
 use Rattle.image.specs.Determined.{ContentsOne, ReadsOne}
 use Rattle.image.proofs.Determined.{contents-one, reads-one}
-use Rattle.oarwillow.specs.Calls.{EncodeGives, CheckGives, RestoreGives, MendGives, ShowGives, ContentsWritten, ContentsGives, ReadGives}
-use Rattle.oarwillow.specs.Determined.{EncodeGivesOne, CheckGivesOne, RestoreGivesOne, MendGivesOne, ShowGivesOne, ContentsGivesOne, ReadGivesOne, GapsGivesOne, StripeLengthGivesOne, BenchLengthGivesOne, NeverLying}
+use Rattle.oarwillow.specs.Calls.{EncodeGives, CheckGives, RestoreGives, LocateGives, RewriteGives, ShowGives, ContentsWritten, ContentsGives, ReadGives}
+use Rattle.oarwillow.specs.Determined.{EncodeGivesOne, CheckGivesOne, RestoreGivesOne, LocateGivesOne, RewriteGivesOne, ShowGivesOne, ContentsGivesOne, ReadGivesOne, GapsGivesOne, StripeLengthGivesOne, BenchLengthGivesOne, NeverLying}
 
 pub encode-gives-one : EncodeGivesOne
 unfolding EncodeGivesOne EncodesOne
@@ -39,11 +41,17 @@ restore-gives-one m k b places s bench after n x y r after′ n′ x′ y′ r�
     let (e, bytes) = restores-one m k b (p .map) s bench after after′ (p .answer) (q .answer) (p .meets) (rw same (q .meets)) in
     (bytes, cc, cc, cc, cc)
 
-pub mend-gives-one : MendGivesOne
-unfolding MendGivesOne MendsOne
-mend-gives-one m k b s after x r after′ x′ r′ p q =
-    let (e, bytes) = mends-one m k b s after after′ (p .answer) (q .answer) (p .meets) (q .meets) in
-    (bytes, cc, cc)
+pub locate-gives-one : LocateGivesOne
+unfolding LocateGivesOne LocatesOne
+locate-gives-one m k b s x y r x′ y′ r′ p q =
+    let e = locates-one m k b s (p .answer) (q .answer) (p .meets) (q .meets) in
+    (cc, cc, cc)
+
+pub rewrite-gives-one : RewriteGivesOne
+unfolding RewriteGivesOne RewritesOne
+rewrite-gives-one m k b s after after′ column r r′ p q =
+    let (e, bytes) = rewrites-one m k b column s after after′ (p .answer) (q .answer) (p .meets) (q .meets) in
+    (bytes, cc)
 
 pub show-gives-one : ShowGivesOne
 unfolding ShowGivesOne PlacesOne OfBytesOne
@@ -95,7 +103,7 @@ bench-length-gives-one m b r r′ p q = length-one (benchLength m b) r r′ (p .
 
 pub never-lying : NeverLying
 unfolding NeverLying
-never-lying = (encoded, checked, mended, said, taken, restored, shown)
+never-lying = (encoded, checked, located, rewritten, said, taken, restored, shown)
   where
     encoded : (m k b : ℕ) (s after : List ℕ) (r : ℕ) → EncodeGives m k b s after r → r ≢ 17
     encoded m k b s after r p e = never-number 17 (stripeRules m k b (length s)) _ (omega arith) (λ q. absurd (omega arith), (λ q. absurd (omega arith), (λ q. absurd (omega arith), (λ q. absurd (omega arith), tt)))) (p .meets .told) (sym (p .number) ∙ e)
@@ -103,8 +111,11 @@ never-lying = (encoded, checked, mended, said, taken, restored, shown)
     checked : (m k b : ℕ) (s : List ℕ) (x y r : ℕ) → CheckGives m k b s x y r → r ≢ 17
     checked m k b s x y r p e = never-number 17 (stripeRules m k b (length s)) _ (omega arith) (λ q. absurd (omega arith), (λ q. absurd (omega arith), (λ q. absurd (omega arith), (λ q. absurd (omega arith), tt)))) (p .meets .told) (sym (p .number) ∙ e)
 
-    mended : (m k b : ℕ) (s after : List ℕ) (x r : ℕ) → MendGives m k b s after x r → r ≢ 17
-    mended m k b s after x r p e = never-number 17 (mendRules m k b s) _ (omega arith) (λ q. absurd (omega arith), (λ q. absurd (omega arith), (λ q. absurd (omega arith), (λ q. absurd (omega arith), (λ q. absurd (omega arith), tt))))) (p .meets .told) (sym (p .number) ∙ e)
+    located : (m k b : ℕ) (s : List ℕ) (x y r : ℕ) → LocateGives m k b s x y r → r ≢ 17
+    located m k b s x y r p e = never-number 17 (locateRules m k b s) _ (omega arith) (λ q. absurd (omega arith), (λ q. absurd (omega arith), (λ q. absurd (omega arith), (λ q. absurd (omega arith), (λ q. absurd (omega arith), tt))))) (p .meets .told) (sym (p .number) ∙ e)
+
+    rewritten : (m k b : ℕ) (s after : List ℕ) (column r : ℕ) → RewriteGives m k b s after column r → r ≢ 17
+    rewritten m k b s after column r p e = never-number 17 (rewriteRules m k b column s) _ (omega arith) (λ q. absurd (omega arith), (λ q. absurd (omega arith), (λ q. absurd (omega arith), (λ q. absurd (omega arith), (λ q. absurd (omega arith), (λ q. absurd (omega arith), tt)))))) (p .meets .told) (sym (p .number) ∙ e)
 
     said : (image places : List ℕ) (x y z r : ℕ) → ContentsGives image places x y z r → r ≢ 17
     said image places x y z r p e = never-number 17 (contentsRules image) _ (omega arith) (λ q. absurd (omega arith), (λ q. absurd (omega arith), (λ q. absurd (omega arith), (λ q. absurd (omega arith), (λ q. absurd (omega arith), tt))))) (p .meets .told) (sym (p .written .number) ∙ e)

@@ -1,6 +1,6 @@
 -- What each call for C gives: there is an answer of the call below it that meets its promise, and the number and the results are that
 -- answer's. The parameters are the arguments, then the results, then the number.
---   EncodeGives, CheckGives, RestoreGives, MendGives, ShowGives, ContentsGives, ReadGives
+--   EncodeGives, CheckGives, RestoreGives, LocateGives, RewriteGives, ShowGives, ContentsGives, ReadGives
 --   ContentsWritten      what the last two write, of what was found
 --   GapsGives            what the map of these bytes keeps, and its absent places below k + 2; it is never refused
 --   StripeLengthGives    the bytes of a stripe; 0 where the three numbers are no shape
@@ -13,8 +13,9 @@ use Rattle.evenodd.specs.declared.checks.Checked.{Checked}
 use Rattle.evenodd.specs.declared.encodes.Encoded.{Encoded}
 use Rattle.inputs.specs.declared.maps.Gaps.{Gaps}
 use Rattle.inputs.specs.declared.maps.Map.{Map}
-use Rattle.evenodd.specs.declared.mends.Mended.{Mended}
+use Rattle.evenodd.specs.declared.locates.Located.{Located}
 use Rattle.evenodd.specs.declared.restores.Restored.{Restored}
+use Rattle.evenodd.specs.declared.rewrites.Rewritten.{Rewritten}
 use Rattle.evenodd.specs.declared.shows.Place.{Place}
 use Rattle.inputs.specs.Refusals.{answerNumber}
 use Rattle.inputs.specs.Maps.{OfBytes, AsBytes, FindsGaps}
@@ -24,8 +25,10 @@ use Rattle.evenodd.specs.Checks.{Checks, rowsOf, diagonalsOf}
 use Rattle.evenodd.specs.Checks as checks
 use Rattle.evenodd.specs.Restores.{Restores, countOf, firstOf, secondOf}
 use Rattle.evenodd.specs.Restores as restores
-use Rattle.evenodd.specs.Mends.{Mends, columnOf}
-use Rattle.evenodd.specs.Mends as mends
+use Rattle.evenodd.specs.Locates.{Locates, foundOf, columnOf}
+use Rattle.evenodd.specs.Locates as locates
+use Rattle.evenodd.specs.Rewrites.{Rewrites}
+use Rattle.evenodd.specs.Rewrites as rewrites
 use Rattle.evenodd.specs.Shows.{Places, fromBenchOf, startOf, lengthOf}
 use Rattle.evenodd.specs.Shows as shows
 use Rattle.image.specs.declared.answers.Contents.{Contents}
@@ -54,11 +57,17 @@ pub record RestoreGives (m k b : ℕ) (places s before after : List ℕ) (n x y 
   pub second : y ≡ secondOf answer
   pub number : r ≡ answerNumber (restores.verdictOf answer)
 
-pub record MendGives (m k b : ℕ) (before after : List ℕ) (x r : ℕ) : Type 0 where
-  pub answer : Mended
-  pub meets : Mends m k b before after answer
-  pub column : x ≡ columnOf answer
-  pub number : r ≡ answerNumber (mends.verdictOf answer)
+pub record LocateGives (m k b : ℕ) (s : List ℕ) (x y r : ℕ) : Type 0 where
+  pub answer : Located
+  pub meets : Locates m k b s answer
+  pub found : x ≡ foundOf answer
+  pub column : y ≡ columnOf answer
+  pub number : r ≡ answerNumber (locates.verdictOf answer)
+
+pub record RewriteGives (m k b : ℕ) (before after : List ℕ) (column r : ℕ) : Type 0 where
+  pub answer : Rewritten
+  pub meets : Rewrites m k b column before after answer
+  pub number : r ≡ answerNumber (rewrites.verdictOf answer)
 
 pub record ShowGives (m k b : ℕ) (places s bench : List ℕ) (column x y n r : ℕ) : Type 0 where
   pub map : Map

@@ -3,15 +3,16 @@
 use evenodd::Checked;
 use evenodd::Encoded;
 use evenodd::Judged;
+use evenodd::Located;
 use evenodd::Map;
-use evenodd::Mended;
 use evenodd::Place;
 use evenodd::Restored;
+use evenodd::Rewritten;
 use image::Contents;
 use image::Read;
 ghost use mathlib.Core.Path.{_≡_};
 ghost use Prim.Native.Nat.{_+_, _≤_, _<_};
-ghost use Rattle.oarwillow.specs.Calls.{EncodeGives, CheckGives, RestoreGives, MendGives, ShowGives, ContentsWritten, ContentsGives, ReadGives, GapsGives, StripeLengthGives, BenchLengthGives};
+ghost use Rattle.oarwillow.specs.Calls.{EncodeGives, CheckGives, RestoreGives, LocateGives, RewriteGives, ShowGives, ContentsWritten, ContentsGives, ReadGives, GapsGives, StripeLengthGives, BenchLengthGives};
 
 // Writes H and D.
 #[no_mangle]
@@ -86,25 +87,42 @@ pub extern "C" fn oarwillow_restore(
     }
 }
 
-// Rewrites the one column that is wrong.
+// Says which column is wrong.
 #[no_mangle]
-pub extern "C" fn oarwillow_mend(
+pub extern "C" fn oarwillow_locate(
+    m: usize,
+    k: usize,
+    b: usize,
+    stripe: &[u8],
+    found: &mut u8,
+    column: &mut usize,
+) -> u8
+    ensures { λ r. ⌜ LocateGives m k b (now (stripe .entry)) (now (found .exit)) (now (column .exit)) r ⌝ }
+{
+    let answer = evenodd::locate(m, k, b, stripe);
+    *found = answer.found();
+    *column = answer.column();
+    match answer {
+        Located::Intact => 0,
+        Located::Column(_) => 0,
+        Located::Refused(r) => r.number(),
+    }
+}
+
+// Rewrites the column that is named.
+#[no_mangle]
+pub extern "C" fn oarwillow_rewrite(
     m: usize,
     k: usize,
     b: usize,
     stripe: &mut [u8],
-    column: &mut usize,
+    column: usize,
 ) -> u8
-    ensures { λ r. ⌜ MendGives m k b (now (stripe .entry)) (now (stripe .exit)) (now (column .exit)) r ⌝ }
+    ensures { λ r. ⌜ RewriteGives m k b (now (stripe .entry)) (now (stripe .exit)) column r ⌝ }
 {
-    *column = 129;
-    match evenodd::mend(m, k, b, stripe) {
-        Mended::Intact => 0,
-        Mended::Column(x) => {
-            *column = x;
-            0
-        }
-        Mended::Refused(r) => r.number(),
+    match evenodd::rewrite(m, k, b, stripe, column) {
+        Rewritten::Done => 0,
+        Rewritten::Refused(r) => r.number(),
     }
 }
 

@@ -5,7 +5,9 @@
 --   differing m k b s v        in how many columns they differ
 --   DifferIn m k b c s v       they differ in exactly the columns that the test c names
 --   Agrees m k b map s v       v has what s has in every present column
+--   AgreesBut m k b u s v      v has what s has in every column but u
 use mathlib.Core.Path.{_≡_}
+use mathlib.Core.Logic.{_≢_}
 use mathlib.Core.Bool.{Bool, true, false, not}
 use mathlib.Core.List.{List}
 use Prim.Native.Nat.{ℕ, _+_, _-_, _<_}
@@ -31,3 +33,6 @@ pub record DifferIn (m k b : ℕ) (c : ℕ → Bool) (s v : List ℕ) : Type 0 w
 
 pub record Agrees (m k b : ℕ) (map : List Bool) (s v : List ℕ) : Type 0 where
   pub at : (t : ℕ) → t < k + 2 → present map t ≡ true → differs m b s v t ≡ false
+
+pub record AgreesBut (m k b u : ℕ) (s v : List ℕ) : Type 0 where
+  pub at : (t : ℕ) → t < k + 2 → t ≢ u → differs m b s v t ≡ false

@@ -4,7 +4,7 @@
 --   first-set, second-set    a half was set
 --   first-added              the first half was added to the second
 --   RowsIn, rows-added       to each row i of the second half a row of the first was added, and what stands there then
---   one-restored, two-restored   what stands there is what was to be restored
+--   rows-restored, one-restored, two-restored   what stands there is what was to be restored: some rows, all of them in the first half, both halves
 --   lined-after              a column of which one cell was set first, and then all
 --   lent-lined, lent-put     a half was lent, and its cells, or one of them, set
 --   lent-at, half-whole      a byte of a half that is lent, and how many it has
@@ -24,7 +24,7 @@ use Rattle.lines.specs.Lines.{real}
 use Rattle.lines.specs.Rows.{Lined}
 use Rattle.lines.proofs.Lines.{real-same}
 use Rattle.walk.specs.Walk.{Column, Parted}
-use Rattle.restoring.specs.Restoring.{SameBut, SameButTwo, OneRestored, TwoRestored}
+use Rattle.restoring.specs.Restoring.{SameBut, SameButTwo, RowsRestored, OneRestored, TwoRestored}
 
 -- a column of which one cell was set first, and then all
 pub lined-after : {n b at len : ℕ} {w u v : List ℕ} {h : ℕ → ℕ} {f f′ : ℕ → ℕ → ℕ} → length u ≡ length w → Lined n b 0 u v f → Put w u at len h
@@ -157,17 +157,35 @@ module _ (m b : ℕ) where
 
 -- ---- what was to be restored
 
-module _ (m k b : ℕ) {s w v : List ℕ} where
-  pub one-restored : {u : ℕ} {f : Column} → Lined (m - 1) b 0 w v f
-      → ((r : List ℕ) → Valid m k b r → SameBut m k b u s r → (l i : ℕ) → l < b → i < m - 1 → f i l ≡ byte m b r l i u)
-      → OneRestored m k b u s w v
-  one-restored p so = record {
+module _ (m k b : ℕ) {s : List ℕ} {u : ℕ} where
+  pub rows-restored : {first n : ℕ} {w v : List ℕ} {f : Column} → Lined n b 0 w v f
+      → ((r : List ℕ) → Valid m k b r → SameBut m k b u s r → (l i : ℕ) → l < b → i < n → f i l ≡ byte m b r l (first + i) u)
+      → RowsRestored m k b u first n s w v
+  rows-restored {v = v} p so = record {
     size = p .size;
-    first = λ r valid same l i hl hi. first-at m b v i l ∙ p .inside i l hi hl ∙ so r valid same l i hl hi;
-    second = λ l i hl hi.
-        let c = columnLength m b in
-        second-at m b c v i l refl ∙ p .after (c + (i * b + l)) (column-end m b c (i * b + l) refl) ∙ sym (second-at m b c w i l refl);
+    rows = λ r valid same l i hl hi.
+        let e : i * b + l ≡ 0 + (i * b + l) = omega arith in
+        ap (λ (x : ℕ). getD v x 0) e ∙ p .inside i l hi hl ∙ so r valid same l i hl hi;
   }
+
+  -- all rows, restored to the first half, which was lent
+  pub one-restored : {c : ℕ} (w y : List ℕ) → c ≡ columnLength m b → c ≤ length w → RowsRestored m k b u 0 (m - 1) s (part w 0 c) y → OneRestored m k b u s w (putMid 0 (c - 0) w y)
+  one-restored {c} w y column room p = record {
+    size = mid-length w y 0 (c - 0) fits size;
+    first = λ r valid same l i hl hi.
+        let e : 0 + i ≡ i = omega arith in
+        first-at m b now i l ∙ mid-inside w y 0 (c - 0) fits size (i * b + l) (omega (arith, row-room m b i l hi hl)) ∙ p .rows r valid same l i hl hi ∙ ap (λ (x : ℕ). byte m b r l x u) e;
+    second = λ l i hl hi. second-at m b c now i l column ∙ mid-after w y 0 (c - 0) fits size (c + (i * b + l)) (omega arith) ∙ sym (second-at m b c w i l column);
+  }
+    where
+      now : List ℕ
+      now = putMid 0 (c - 0) w y
+
+      fits : 0 + (c - 0) ≤ length w
+      fits = omega arith
+
+      size : length y ≡ c - 0
+      size = lent-size w y 0 c (omega arith) room (p .size)
 
 module _ (m k b : ℕ) {s w v : List ℕ} (whole : length w ≡ 2 * columnLength m b) where
   pub two-restored : {u u′ : ℕ} {f g : Column} → Parted m b v f g

@@ -1,9 +1,12 @@
 -- What each function leaves, step by step.
 --   all-columns, one-line, whole-lines   what the sums ask for where they go over all data columns but u and v
+--   band-last, band-cells         where the last cell of a band stands, and that the sums have room there
+--   half-band, half-cells         a half is a band of all rows
 --   row-left, diagonal-left       what is left of a line, as it is summed
+--   rows-whole                    what is left of the rows of a half, which begins with row 0
 --   past-end                      what stands past the end of a buffer is zero
 --   by-S, last-none               what is left when S is added; row m - 1 is zero
---   one-by-rows, one-by-diagonals one column, restored
+--   by-rows, by-diagonals         some rows of one column, restored
 --   begin-row, both-summed        both halves summed over some columns
 --   cleared, uncleared            the last cell of the first half was cleared, and that of the second was not
 --   put-over                      a run that was set, and then set again
@@ -17,6 +20,7 @@ use mathlib.Core.Logic.{_≢_}
 use mathlib.Core.Bool.{Bool, cond}
 use mathlib.Core.List.{List}
 use Prim.Native.Nat.{ℕ, _+_, _*_, _-_, _%_, _≤_, _<_}
+use native.Mathlib.Nat.{mod-eq-of-lt}
 use native.Mathlib.Decide.{ℕ-discrete}
 use native.Mathlib.Omega.{arith}
 use lib.ListN.{length, getD, List·getD-eq-default}
@@ -36,14 +40,15 @@ use Rattle.lines.specs.Lines.{real, span, ended, Laid}
 use Rattle.lines.specs.Rows.{Lined, Room}
 use Rattle.lines.proofs.Lines.{up-straight, real-in, real-out, real-same, column-is}
 use Rattle.lines.proofs.Places.{window-first}
+use Rattle.lines.proofs.Rows.{lined-same}
 use Rattle.lines.proofs.Turned.{last-cell}
 use Rattle.lines.proofs.Whole.{whole-line}
-use Rattle.sums.specs.Sums.{begun, laneOf, windowOf, OneLine, WholeLines}
+use Rattle.sums.specs.Sums.{begun, laneOf, windowOf, OneLine, RoomForCells, AllColumns}
 use Rattle.sums.proofs.Sweeps.{begun-first, begun-next, onward, over}
 use Rattle.walk.specs.Walk.{Column, Mixed, Parted, Walked}
-use Rattle.restoring.specs.Restoring.{Bench, SameButTwo, OneRestored, TwoRestored}
+use Rattle.restoring.specs.Restoring.{Bench, Band, SameButTwo, RowsRestored, TwoRestored}
 use Rattle.restoring.specs.Left.{rowLeft, diagonalLeft, beginRow, BothSummed}
-use Rattle.restoring.proofs.Bench.{lent-at, lent-put, lent-lined, first-at, second-at, bench-now, first-set, second-set, first-added, RowsIn, rows-added, one-restored, two-restored}
+use Rattle.restoring.proofs.Bench.{lent-at, lent-put, lent-lined, first-at, second-at, bench-now, first-set, second-set, first-added, RowsIn, rows-added, rows-restored, two-restored}
 use Rattle.restoring.proofs.Lanes.{row-of-one, row-of-both, diagonal-of-both, diagonal-of-one, diagonal-and-d, d-first, d-second, total-S}
 
 pub past-end : (w : List ℕ) {p : ℕ} (l : ℕ) → length w ≤ p → getD w (p + l) 0 ≡ 0
@@ -61,9 +66,9 @@ module _ (g : Grid) (u v : ℕ) where
     one-line {n} {e} {i} {seed} {to} is laid slant inside room = subst (λ (x : Columns). OneLine g s n e i x seed to) (sym is)
         (record { laid = laid; slant = slant; inside = inside; first = refl; some = laid .some; most = omega arith; room = room })
 
-    pub whole-lines : {n e d : ℕ} {columns : Columns} → columns ≡ all-columns → Laid g s → n ≡ g .column → e ≤ 1 → d < g .m → WholeLines g s n e d columns
-    whole-lines {n} {e} {d} is laid whole slant shift = subst (λ (x : Columns). WholeLines g s n e d x) (sym is)
-        (record { laid = laid; whole = whole; slant = slant; shift = shift; first = refl; some = laid .some; most = omega arith })
+    pub whole-lines : {e d : ℕ} {columns : Columns} → columns ≡ all-columns → Laid g s → e ≤ 1 → d < g .m → AllColumns g s e d columns
+    whole-lines {e} {d} is laid slant shift = subst (λ (x : Columns). AllColumns g s e d x) (sym is)
+        (record { laid = laid; slant = slant; shift = shift; first = refl; some = laid .some; most = omega arith })
 
     pub row-left : {columns : Columns} (i l : ℕ) → columns ≡ all-columns → windowOf g s 0 i columns l ≡ rowLeft g u v s i l
     row-left i l is =
@@ -73,6 +78,33 @@ module _ (g : Grid) (u v : ℕ) where
 
     pub diagonal-left : {columns : Columns} (i l : ℕ) → columns ≡ all-columns → windowOf g s 1 i columns l ≡ diagonalLeft g u v s i l
     diagonal-left i l is = ap (λ (x : Columns). windowOf g s 1 i x l) is ∙ window-first (g .m) (g .k) (laneOf g s all-columns l) 1 i (g .k)
+
+    pub rows-whole : {at : ℕ} {w o : List ℕ} → Lined (g .m - 1) (g .b) at w o (λ r l. rowLeft g u v s ((r + 0) % g .m) l) → Lined (g .m - 1) (g .b) at w o (rowLeft g u v s)
+    rows-whole p = lined-same p (λ r l hr hl. ap (λ (i : ℕ). rowLeft g u v s i l) (whole-line (omega arith)))
+
+-- ---- a band of rows
+
+module _ {g : Grid} {s : List ℕ} {p n : ℕ} (z : Band g s p n) where
+  pub band-last : p ≡ (n - 1) * g .b + g .b
+  band-last = let e : n - 1 + 1 ≡ n = omega (arith, z .some) in omega (arith, z .room, ap (λ (x : ℕ). x * g .b) e)
+
+  pub band-cells : {q : ℕ} → q ≡ p → RoomForCells g q n ((n - 1) * g .b)
+  band-cells same = record {
+    before = omega (arith, band-last, z .room);
+    room = omega (arith, band-last);
+    short = λ h.
+        let e : n - 1 ≡ g .m - 2 = omega (arith, z .short h) in
+        (z .short h, ap (λ (x : ℕ). x * g .b) e, same ∙ z .room ∙ ap (λ (x : ℕ). x * g .b) (z .short h) ∙ sym (column-is (g .m) (g .b) (g .column) (z .laid .sized)));
+  }
+
+module _ {g : Grid} {s : List ℕ} {p : ℕ} (laid : Laid g s) (whole : p ≡ g .column) where
+  pub half-band : Band g s p (g .m - 1)
+  half-band = record { laid = laid; some = omega (arith, laid .sized .big); room = whole ∙ column-is (g .m) (g .b) (g .column) (laid .sized); short = λ _. refl }
+
+  pub half-cells : RoomForCells g p (g .m - 1) ((g .m - 2) * g .b)
+  half-cells =
+      let e = last-cell (laid .sized) 0 in
+      record { before = omega (arith, column-is (g .m) (g .b) (g .column) (laid .sized)); room = omega arith; short = λ _. (refl, refl, whole) }
 
 -- ---- both halves, over some columns
 
@@ -245,34 +277,39 @@ last-none m a t = real-out m a (m - 1) t (omega arith)
 
 -- ---- one column
 
-module _ (g : Grid) (s w : List ℕ) (laid : Laid g s) (u : ℕ) where
+module _ (g : Grid) (s w : List ℕ) (laid : Laid g s) (u first n : ℕ) (rows : first + n ≤ g .m - 1) where
   -- no column has number 129
   no-column : g .k + 2 ≤ 129
   no-column = omega (arith, laid .few, laid .sized .few)
 
-  pub one-by-rows : {o : List ℕ} → u ≤ g .k → Lined (g .m - 1) (g .b) 0 w o (rowLeft g u 129 s) → OneRestored (g .m) (g .k) (g .b) u s w o
-  one-by-rows low p =
+  -- the line of cell i
+  line-of : (i : ℕ) → i < n → (i + first) % g .m ≡ first + i
+  line-of i h = let e : i + first ≡ first + i = omega arith in ap (λ (x : ℕ). x % g .m) e ∙ mod-eq-of-lt (omega arith)
+
+  pub by-rows : {o : List ℕ} → u ≤ g .k → Lined n (g .b) 0 w o (λ r l. rowLeft g u 129 s ((r + first) % g .m) l) → RowsRestored (g .m) (g .k) (g .b) u first n s w o
+  by-rows low p =
       let m = g .m in
       let b = g .b in
-      one-restored m (g .k) b p (λ r valid same l i hl hi.
-      row-of-one m (g .k) (laid .sized .big) (laid .few) (lane m b s l) (lane m b r l) (valid .lanes l hl) u 129 (λ e. absurd (omega (arith, no-column)))
-      (λ x t hx ht ne _. same l x t hl hx ht ne) low (omega (arith, no-column)) i hi)
+      rows-restored m (g .k) b p (λ r valid same l i hl hi.
+      ap (λ (j : ℕ). rowLeft g u 129 s j l) (line-of i hi)
+      ∙ row-of-one m (g .k) (laid .sized .big) (laid .few) (lane m b s l) (lane m b r l) (valid .lanes l hl) u 129 (λ e. absurd (omega (arith, no-column)))
+      (λ x t hx ht ne _. same l x t hl hx ht ne) low (omega (arith, no-column)) (first + i) (omega arith))
 
-  pub one-by-diagonals : {o : List ℕ} → u ≡ g .k + 1
-      → Lined (g .m - 1) (g .b) 0 w o (λ r l. diagonalLeft g u 129 s (g .m - 1) l ⊕ diagonalLeft g u 129 s ((r + 0) % g .m) l) → OneRestored (g .m) (g .k) (g .b) u s w o
-  one-by-diagonals is p =
+  pub by-diagonals : {o : List ℕ} → u ≡ g .k + 1
+      → Lined n (g .b) 0 w o (λ r l. diagonalLeft g u 129 s (g .m - 1) l ⊕ diagonalLeft g u 129 s ((r + first) % g .m) l) → RowsRestored (g .m) (g .k) (g .b) u first n s w o
+  by-diagonals is p =
       let m = g .m in
       let k = g .k in
       let b = g .b in
-      one-restored m k b p (λ r valid same l i hl hi.
+      rows-restored m k b p (λ r valid same l i hl hi.
       let a = lane m b r l in
       let d : (i : ℕ) → i < m → diagonalLeft g u 129 s i l ≡ S m k a ⊕ real m a i (k + 1) =
       d-first m k (laid .sized .big) (laid .few) (lane m b s l) a (valid .lanes l hl) u 129 (λ e. absurd (omega (arith, no-column)))
       (λ x t hx ht ne _. same l x t hl hx ht ne) is (omega (arith, no-column)) in
       ap₂ _⊕_ (d (m - 1) (omega arith) ∙ ap (λ (x : ℕ). S m k a ⊕ x) (last-none m a (k + 1)))
-      (ap (λ (j : ℕ). diagonalLeft g u 129 s j l) (whole-line (omega arith)) ∙ d i (omega arith) ∙ ap (λ (x : ℕ). S m k a ⊕ x) (real-in m a i (k + 1) hi))
-      ∙ by-S (S m k a) (a i (k + 1))
-      ∙ ap (a i) (sym is))
+      (ap (λ (j : ℕ). diagonalLeft g u 129 s j l) (line-of i hi) ∙ d (first + i) (omega arith) ∙ ap (λ (x : ℕ). S m k a ⊕ x) (real-in m a (first + i) (k + 1) (omega arith)))
+      ∙ by-S (S m k a) (a (first + i) (k + 1))
+      ∙ ap (a (first + i)) (sym is))
 
 -- ---- two columns
 
@@ -317,9 +354,9 @@ module _ (g : Grid) (s w : List ℕ) (ready : Bench g s (length w)) where
 
   pub data-h : (u e : ℕ) {w₁ w₂ o : List ℕ} → u < k → e ≡ (m - 1 + u) % m
       → Lined (m - 1) b 0 w w₁ (λ r l. diagonalLeft g u k s e l ⊕ diagonalLeft g u k s ((r + u) % m) l)
-      → Lined (m - 1) b (g .column) w₁ w₂ (rowLeft g u k s) → Put w₂ o (g .column) (g .column) (λ l. getD w₂ (g .column + l) 0 ⊕ getD w₂ (0 + l) 0) → TwoRestored m k b u k s w o
+      → Lined (m - 1) b (g .column) w₁ w₂ (λ r l. rowLeft g u k s ((r + 0) % m) l) → Put w₂ o (g .column) (g .column) (λ l. getD w₂ (g .column + l) 0 ⊕ getD w₂ (0 + l) 0) → TwoRestored m k b u k s w o
   data-h u e low is q p f =
-      two-restored m k b whole (first-added m b column (second-set m b column (first-set m b (bench-now m b w whole) q) p) f) (λ r valid same l i hl hi.
+      two-restored m k b whole (first-added m b column (second-set m b column (first-set m b (bench-now m b w whole) q) (rows-whole g u k s p)) f) (λ r valid same l i hl hi.
       let a = lane m b r l in
       let agree : (x t : ℕ) → x < m - 1 → t < k + 2 → t ≢ u → t ≢ k → lane m b s l x t ≡ a x t = λ x t hx ht. same l x t hl hx ht in
       let ne : u ≢ k = λ e. absurd (omega arith) in
@@ -349,7 +386,7 @@ module _ (g : Grid) (s w : List ℕ) (ready : Bench g s (length w)) where
     abbrev crossing : ℕ → ℕ
     crossing l = real m (λ r t. F r l) (m - 1 - u) 0
 
-    pub data-d : {w₁ w₂ w₃ w₄ o : List ℕ} → Lined (m - 1) b 0 w w₁ F → Put w₁ w₂ (g .column + (m - 2) * b) b (E (m - 1))
+    pub data-d : {w₁ w₂ w₃ w₄ o : List ℕ} → Lined (m - 1) b 0 w w₁ (λ r l. F ((r + 0) % m) l) → Put w₁ w₂ (g .column + (m - 2) * b) b (E (m - 1))
         → Put w₂ w₃ (g .column + (m - 2) * b) b (λ l. getD w₂ (g .column + (m - 2) * b + l) 0 ⊕ real m (lane m b w₂ l) (m - 1 - u) 0)
         → Lined (m - 1) b (g .column) w₃ w₄ (λ r l. getD w₃ (g .column + (m - 2) * b + l) 0 ⊕ E ((r + 0) % m) l)
         → RowsIn m b (g .column) (λ i. back m i u) w₄ o → TwoRestored m k b u (k + 1) s w o
@@ -387,7 +424,7 @@ module _ (g : Grid) (s w : List ℕ) (ready : Bench g s (length w)) where
 
         second : Parted m b w₂ F (Second w₂)
         second =
-            let z = first-set m b (bench-now m b w whole) p in
+            let z = first-set m b (bench-now m b w whole) (rows-whole g u (k + 1) s p) in
             record { size = q .size ∙ z .size; first = λ i l hi hl. beside q i l hi hl ∙ z .first i l hi hl; second = λ i l hi hl. refl }
 
         third : Parted m b w₃ F (Second w₃)

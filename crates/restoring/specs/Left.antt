@@ -1,7 +1,6 @@
 -- What the functions on the way say to one another.
 --   rowLeft g u v s i l        byte l of row i of s with H's cell, without columns u and v
 --   diagonalLeft g u v s i l   byte l of diagonal i of s with D's cell, without columns u and v
---   Halved g s n               a stripe of that grid, and a column of n bytes
 --   Summing, BothSummed        both halves of w became those of v by lines over some columns: where these are the first each cell begins with
 --                              row m - 2 of its half, which is the last, else with what it holds
 --   BothLeft g u v d s w v     the first half of v is what is left of the rows of s, the second what is left of its diagonals, each plus the last cell
@@ -27,10 +26,6 @@ rowLeft g u v s i l = ended (g .m) (without u v (lane (g .m) (g .b) s l)) 0 i (g
 
 abbrev pub diagonalLeft : Grid → ℕ → ℕ → List ℕ → ℕ → ℕ → ℕ
 diagonalLeft g u v s i l = ended (g .m) (without u v (lane (g .m) (g .b) s l)) 1 i (g .k + 1) (g .k)
-
-pub record Halved (g : Grid) (s : List ℕ) (n : ℕ) : Type 0 where
-  pub laid : Laid g s
-  pub whole : n ≡ g .column
 
 pub record Summing (g : Grid) (s : List ℕ) (n d : ℕ) (columns : Columns) : Type 0 where
   pub laid : Laid g s

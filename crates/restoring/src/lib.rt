@@ -1,7 +1,7 @@
-// Absent columns of a stripe, one or two, restored to the halves of the bench, a buffer of two columns. An absent column is
-// never read: every sum leaves out columns u and v, of which 129, which no stripe has, stands for none; H and D are summed whole only where both are
-// there. A row with H's cell is zero, and a diagonal with D's cell is S: what is left of them is what the absent columns have there. Row m - 1 is
-// imaginary, and zero. While a half is summed, its last cell holds what every cell of it begins with: nothing for rows, S for diagonals.
+// Absent columns of a stripe, one or two, restored to the halves of the bench, a buffer of two columns; or some rows of one, to room for them. An absent
+// column is never read: every sum leaves out columns u and v, of which 129, which no stripe has, stands for none; H and D are summed whole only where both
+// are there. A row with H's cell is zero, and a diagonal with D's cell is S: what is left of them is what the absent columns have there. Row m - 1 is
+// imaginary, and zero. While cells are summed, the last of them holds what each begins with: nothing for rows, S for diagonals.
 use lines::Columns;
 use lines::Grid;
 ghost use mathlib.Core.Path.{_≡_};
@@ -14,51 +14,68 @@ ghost use Rattle.cells.specs.Runs.{Put};
 ghost use Rattle.lines.specs.Lines.{ahead, real, span, Sized, Laid};
 ghost use Rattle.lines.specs.Rows.{Lined};
 ghost use Rattle.walk.specs.Walk.{Reaches};
-ghost use Rattle.restoring.specs.Restoring.{Bench, OneRestored, TwoRestored};
-ghost use Rattle.restoring.specs.Left.{rowLeft, diagonalLeft, Halved, Summing, BothSummed, BothLeft, Totalling, CellsTotalled};
+ghost use Rattle.restoring.specs.Restoring.{Bench, Band, RowsRestored, OneRestored, TwoRestored};
+ghost use Rattle.restoring.specs.Left.{rowLeft, diagonalLeft, Summing, BothSummed, BothLeft, Totalling, CellsTotalled};
 
-// The last cell of a half becomes what is left of diagonal d without columns u and v.
-fn put_diagonal(half: &mut [u8], s: &[u8], g: Grid, d: usize, u: usize, v: usize)
-    requires { ⌜ (d < g .m) × Halved g (now s) (length (now half)) ⌝ }
-    ensures { λ _. ⌜ Put (now (half .entry)) (now (half .exit)) ((g .m - 2) * g .b) (g .b) (diagonalLeft g u v (now (s .entry)) d) ⌝ }
+// The cell of w at `to` becomes what is left of diagonal d without columns u and v.
+fn put_diagonal(w: &mut [u8], s: &[u8], g: Grid, d: usize, u: usize, v: usize, to: usize)
+    requires { ⌜ (d < g .m) × (to + g .b ≤ length (now w)) × Laid g (now s) ⌝ }
+    ensures { λ _. ⌜ Put (now (w .entry)) (now (w .exit)) to (g .b) (diagonalLeft g u v (now (s .entry)) d) ⌝ }
 {
-    let last = (g.m - 2) * g.b;
-    let none = half.len();
-    sums::sum_line(half, none, s, g, 1, d, lines::all_but(g, u, v), last);
+    let none = w.len();
+    sums::sum_line(w, none, s, g, 1, d, lines::all_but(g, u, v), to);
 }
 
-// Every cell r of a half becomes what is left of diagonal r + shift modulo m without columns u and v, plus what is left of diagonal d.
-fn put_diagonals(half: &mut [u8], s: &[u8], g: Grid, d: usize, shift: usize, u: usize, v: usize)
-    requires { ⌜ (d < g .m) × (shift < g .m) × Halved g (now s) (length (now half)) ⌝ }
-    ensures { λ _. ⌜ Lined (g .m - 1) (g .b) 0 (now (half .entry)) (now (half .exit)) (λ r l. diagonalLeft g u v (now (s .entry)) d l ⊕ diagonalLeft g u v (now (s .entry)) (ahead (g .m) r shift) l) ⌝ }
+// Every cell r of w, of n cells, becomes what is left of diagonal r + shift modulo m without columns u and v, plus what is left of diagonal d.
+fn put_diagonals(
+    w: &mut [u8],
+    n: usize,
+    s: &[u8],
+    g: Grid,
+    d: usize,
+    shift: usize,
+    u: usize,
+    v: usize,
+)
+    requires { ⌜ (d < g .m) × (shift < g .m) × Band g (now s) (length (now w)) n ⌝ }
+    ensures { λ _. ⌜ Lined n (g .b) 0 (now (w .entry)) (now (w .exit)) (λ r l. diagonalLeft g u v (now (s .entry)) d l ⊕ diagonalLeft g u v (now (s .entry)) (ahead (g .m) r shift) l) ⌝ }
 {
-    put_diagonal(half, s, g, d, u, v);
-    sums::sum_half(half, s, g, 1, shift, lines::all_but(g, u, v));
+    let last = (n - 1) * g.b;
+    put_diagonal(w, s, g, d, u, v, last);
+    sums::sum_cells(w, last, n, s, g, 1, shift, lines::all_but(g, u, v));
 }
 
-// Every cell of a half becomes what is left of its row without columns u and v.
-fn put_rows(half: &mut [u8], s: &[u8], g: Grid, u: usize, v: usize)
-    requires { ⌜ Halved g (now s) (length (now half)) ⌝ }
-    ensures { λ _. ⌜ Lined (g .m - 1) (g .b) 0 (now (half .entry)) (now (half .exit)) (rowLeft g u v (now (s .entry))) ⌝ }
+// Every cell r of w, of n cells, becomes what is left of row r + first modulo m without columns u and v.
+fn put_rows(w: &mut [u8], n: usize, s: &[u8], g: Grid, first: usize, u: usize, v: usize)
+    requires { ⌜ (first < g .m) × Band g (now s) (length (now w)) n ⌝ }
+    ensures { λ _. ⌜ Lined n (g .b) 0 (now (w .entry)) (now (w .exit)) (λ r l. rowLeft g u v (now (s .entry)) (ahead (g .m) r first) l) ⌝ }
 {
-    let last = (g.m - 2) * g.b;
-    let end = half.len();
-    cells::zero(&mut half[last..end]);
-    sums::sum_half(half, s, g, 0, 0, lines::all_but(g, u, v));
+    let last = (n - 1) * g.b;
+    let end = w.len();
+    cells::zero(&mut w[last..end]);
+    sums::sum_cells(w, last, n, s, g, 0, first, lines::all_but(g, u, v));
 }
 
-// Column u is absent, and the others fit a valid stripe: the first half of the bench becomes column u of it, from the rows, or, of D, from the diagonals. A bench
-// of that half alone will do.
+// Column u is absent, and the others fit a valid stripe: the n cells of w become n rows of column u of it, from row `first` on. They come from the rows, or, of
+// D, from the diagonals.
+pub fn restore_rows(s: &[u8], w: &mut [u8], g: Grid, u: usize, first: usize, n: usize)
+    requires { ⌜ (u < g .k + 2) × (first + n ≤ g .m - 1) × Band g (now s) (length (now w)) n ⌝ }
+    ensures { λ _. ⌜ RowsRestored (g .m) (g .k) (g .b) u first n (now (s .entry)) (now (w .entry)) (now (w .exit)) ⌝ }
+{
+    if u <= g.k {
+        put_rows(w, n, s, g, first, u, 129);
+    } else {
+        put_diagonals(w, n, s, g, g.m - 1, first, u, 129);
+    }
+}
+
+// Column u is absent, and the others fit a valid stripe: the first half of the bench becomes column u of it. A bench of that half alone will do.
 pub fn restore_one(s: &[u8], bench: &mut [u8], g: Grid, u: usize)
     requires { ⌜ Laid g (now s) × (g .column ≤ length (now bench)) × (u < g .k + 2) ⌝ }
     ensures { λ _. ⌜ OneRestored (g .m) (g .k) (g .b) u (now (s .entry)) (now (bench .entry)) (now (bench .exit)) ⌝ }
 {
     let c = g.column;
-    if u <= g.k {
-        put_rows(&mut bench[0..c], s, g, u, 129);
-    } else {
-        put_diagonals(&mut bench[0..c], s, g, g.m - 1, 0, u, 129);
-    }
+    restore_rows(s, &mut bench[0..c], g, u, 0, g.m - 1);
 }
 
 // Both halves get lines over those columns, at most eight: cell r of the first row r, and of the second diagonal r + shift modulo m. Where the columns are
@@ -69,8 +86,11 @@ fn sum_two(bench: &mut [u8], s: &[u8], g: Grid, shift: usize, columns: Columns)
 {
     let c = g.column;
     let end = 2 * c;
-    sums::sum_lines(&mut bench[0..c], s, g, 0, 0, columns);
-    sums::sum_lines(&mut bench[c..end], s, g, 1, shift, columns);
+    let m = g.m;
+    let b = g.b;
+    let last = (m - 2) * b;
+    sums::sum_lines(&mut bench[0..c], last, m - 1, s, g, 0, 0, columns);
+    sums::sum_lines(&mut bench[c..end], last, m - 1, s, g, 1, shift, columns);
 }
 
 // The first half becomes what is left of the rows without columns u and v, the second what is left of the diagonals, each plus what its last cell holds: row r
@@ -138,7 +158,7 @@ fn total_cells(w: &mut [u8], s: &[u8], b: usize, n: usize, to: usize)
 
 // The last cell of a half becomes the sum of all cells of columns H and D, which is S where m is odd.
 fn put_total(half: &mut [u8], s: &[u8], g: Grid)
-    requires { ⌜ Halved g (now s) (length (now half)) ⌝ }
+    requires { ⌜ (length (now half) ≡ g .column) × Laid g (now s) ⌝ }
     ensures { λ _. ⌜ Put (now (half .entry)) (now (half .exit)) ((g .m - 2) * g .b) (g .b) (λ l. sum (g .m - 1) (λ i. span (g .m) (lane (g .m) (g .b) (now (s .entry)) l) 0 i (g .k) (g .k + 2))) ⌝ }
 {
     let b = g.b;
@@ -169,8 +189,17 @@ fn data_and_h(s: &[u8], bench: &mut [u8], g: Grid, u: usize)
     let m = g.m;
     let k = g.k;
     // Diagonal u is in row 0 of column u, so the one before it, u - 1, is in row m - 1 there.
-    put_diagonals(&mut bench[0..c], s, g, lines::row_above(m, u, 1), u, u, k);
-    put_rows(&mut bench[c..end], s, g, u, k);
+    put_diagonals(
+        &mut bench[0..c],
+        m - 1,
+        s,
+        g,
+        lines::row_above(m, u, 1),
+        u,
+        u,
+        k,
+    );
+    put_rows(&mut bench[c..end], m - 1, s, g, 0, u, k);
     cells::add_within(bench, c, 0, c);
 }
 
@@ -194,11 +223,23 @@ fn data_and_d(s: &[u8], bench: &mut [u8], g: Grid, u: usize)
 {
     let c = g.column;
     let end = 2 * c;
+    let m = g.m;
+    let b = g.b;
     let d = g.k + 1;
-    put_rows(&mut bench[0..c], s, g, u, d);
-    put_diagonal(&mut bench[c..end], s, g, g.m - 1, u, d);
+    let last = (m - 2) * b;
+    put_rows(&mut bench[0..c], m - 1, s, g, 0, u, d);
+    put_diagonal(&mut bench[c..end], s, g, m - 1, u, d, last);
     add_crossing(bench, g, u);
-    sums::sum_half(&mut bench[c..end], s, g, 1, 0, lines::all_but(g, u, d));
+    sums::sum_cells(
+        &mut bench[c..end],
+        last,
+        m - 1,
+        s,
+        g,
+        1,
+        0,
+        lines::all_but(g, u, d),
+    );
     lines::add_turned_within(bench, c, g, 0, u);
 }
 
@@ -209,8 +250,10 @@ fn h_and_d(s: &[u8], bench: &mut [u8], g: Grid)
 {
     let c = g.column;
     let end = 2 * c;
+    let m = g.m;
+    let b = g.b;
     let k = g.k;
-    put_diagonal(&mut bench[c..end], s, g, g.m - 1, k, k + 1);
+    put_diagonal(&mut bench[c..end], s, g, m - 1, k, k + 1, (m - 2) * b);
     put_both(bench, s, g, 0, k, k + 1);
 }
 

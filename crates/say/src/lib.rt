@@ -7,6 +7,7 @@ pub use images::read_line;
 pub use images::report_line;
 pub use operations::check_line;
 pub use operations::encode_line;
-pub use operations::mend_line;
+pub use operations::locate_line;
 pub use operations::restore_line;
+pub use operations::rewrite_line;
 pub use operations::show_line;

@@ -1,10 +1,11 @@
 // A line for each operation, in the form `CASE OPERATION ANSWER`. Each function answers the place after its text, which has a greatest length.
 use evenodd::Checked;
 use evenodd::Encoded;
+use evenodd::Located;
 use evenodd::Map;
-use evenodd::Mended;
 use evenodd::Place;
 use evenodd::Restored;
+use evenodd::Rewritten;
 use words::say_bytes;
 use words::say_head;
 use words::say_number;
@@ -159,30 +160,58 @@ pub fn show_line(
     say_word(out, second, b"\n")
 }
 
-fn say_mended(out: &mut [u8], at: usize, answer: Mended) -> usize
-    ensures { λ r. ⌜ (at ≤ r) × (r ≤ at + 10) ⌝ }
+fn say_located(out: &mut [u8], at: usize, answer: Located) -> usize
+    ensures { λ r. ⌜ (at ≤ r) × (r ≤ at + 15) ⌝ }
 {
+    let found = answer.found() as usize;
+    let column = answer.column();
     match answer {
-        Mended::Intact => say_two(out, at, 0, 129),
-        Mended::Column(u) => say_two(out, at, 0, u),
-        Mended::Refused(f) => say_two(out, at, f.number() as usize, 129),
+        Located::Intact => say_three(out, at, 0, found, column),
+        Located::Column(_) => say_three(out, at, 0, found, column),
+        Located::Refused(f) => say_three(out, at, f.number() as usize, found, column),
     }
 }
 
-// Mends: the answer, the column and the stripe.
-pub fn mend_line(
+// Locates: the answer, what was found and the column.
+pub fn locate_line(
     out: &mut [u8],
     at: usize,
     name: &[u8],
     m: usize,
     k: usize,
     b: usize,
-    stripe: &mut [u8],
+    stripe: &[u8],
 ) -> usize
-    ensures { λ r. ⌜ (at ≤ r) × (r ≤ at + (length (now (name .entry)) + 217)) ⌝ }
+    ensures { λ r. ⌜ (at ≤ r) × (r ≤ at + (length (now (name .entry)) + 23)) ⌝ }
 {
-    let first = say_head(out, at, name, b" mend");
-    let answer = evenodd::mend(m, k, b, stripe);
-    let second = say_mended(out, first, answer);
+    let first = say_head(out, at, name, b" locate");
+    let answer = evenodd::locate(m, k, b, stripe);
+    let second = say_located(out, first, answer);
+    say_word(out, second, b"\n")
+}
+
+fn say_rewritten(out: &mut [u8], at: usize, answer: Rewritten) -> usize
+    ensures { λ r. ⌜ (at ≤ r) × (r ≤ at + 5) ⌝ }
+{
+    match answer {
+        Rewritten::Done => say_number(out, at, 0),
+        Rewritten::Refused(f) => say_number(out, at, f.number() as usize),
+    }
+}
+
+// Rewrites a column: the answer and the stripe.
+pub fn rewrite_line(
+    out: &mut [u8],
+    at: usize,
+    name: &[u8],
+    shape: [usize; 3],
+    stripe: &mut [u8],
+    column: usize,
+) -> usize
+    ensures { λ r. ⌜ (at ≤ r) × (r ≤ at + (length (now (name .entry)) + 215)) ⌝ }
+{
+    let first = say_head(out, at, name, b" rewrite");
+    let answer = evenodd::rewrite(shape[0], shape[1], shape[2], stripe, column);
+    let second = say_rewritten(out, first, answer);
     say_last(out, second, stripe)
 }

@@ -1,6 +1,7 @@
 -- Lines of a stripe s summed over some of its columns, and then over the next.
 --   begun-at, begun-first, begun-next, begun-same   what a cell begins with, by case, and in a buffer that has the same bytes there
---   begun-room, same-room       room where a cell begins, and in a buffer as long
+--   begun-room                  room where a cell begins
+--   same-room, same-cells       room for a cell, and for the first n cells, in a buffer as long
 --   all-of                      columns that begin with column 0, by their end
 --   lines-cross                 lines of a stripe can be followed through its data columns
 --   line-lt, line-next          a line modulo m is one of m, and the line of the next row
@@ -8,7 +9,7 @@
 --   cells-next                  one more cell of a column filled
 --   Swept                       to each cell r of a column, line r + d was added: swept-none over no columns, swept-more over one more
 --   repeated                    a column cleared but for its last cell, and that one spread
---   InCell, InHalf              a cell, or every cell of a column, after the columns below t: in-cell-begin, in-cell-next, in-half-begin, in-half-next
+--   InCell, InCells             a cell, or the first n cells, after the columns below t: in-cell-begin, in-cell-next, in-cells-begin, in-cells-next
 use mathlib.Core.Path.{_≡_, refl, sym, ap, ap₂, _∙_, subst}
 use mathlib.Core.Logic.{_≢_}
 use mathlib.Core.Bool.{Bool, cond}
@@ -32,7 +33,7 @@ use Rattle.lines.specs.Rows.{Lined, Room}
 use Rattle.lines.proofs.Lines.{span-none, span-more}
 use Rattle.lines.proofs.Places.{window-join}
 use Rattle.lines.proofs.Rows.{lined-more, lined-same, grown-none, grown-both, Grown}
-use Rattle.sums.specs.Sums.{begun, laneOf, windowOf, spanOf, cellOf}
+use Rattle.sums.specs.Sums.{begun, laneOf, windowOf, spanOf, cellOf, RoomForCells}
 
 -- ---- what a cell begins with
 
@@ -66,6 +67,9 @@ begun-room {n} {b} {seed} {to} columns z e = subst (λ (x : ℕ). Room n b x to)
     whole = λ _. z .inside;
   })
 ])
+
+pub same-cells : {g : Grid} {p v n seed : ℕ} → RoomForCells g p n seed → v ≡ p → RoomForCells g v n seed
+same-cells {g} {n = n} {seed} z e = subst (λ (x : ℕ). RoomForCells g x n seed) (sym e) z
 
 pub same-room : {n v b seed to : ℕ} → Room n b seed to → v ≡ n → Room v b seed to
 same-room {b = b} {seed} {to} z e = subst (λ (x : ℕ). Room x b seed to) (sym e) z
@@ -180,33 +184,30 @@ module _ (g : Grid) (s : List ℕ) (e u v : ℕ) where
       size = f .size ∙ p .size;
     }
 
-  module _ (d : ℕ) where
-    abbrev last : ℕ
-    last = (g .m - 2) * g .b
-
-    pub record InHalf (w o : List ℕ) (t : ℕ) : Type 0 where
+  module _ (rows d seed : ℕ) where
+    pub record InCells (w o : List ℕ) (t : ℕ) : Type 0 where
       pub none : t ≡ 0 → o ≡ w
-      pub some : t ≢ 0 → Lined (g .m - 1) (g .b) 0 w o (λ r l. getD w (last + l) 0 ⊕ windowOf g s e ((r + d) % g .m) (over 0 t) l)
+      pub some : t ≢ 0 → Lined rows (g .b) 0 w o (λ r l. getD w (seed + l) 0 ⊕ windowOf g s e ((r + d) % g .m) (over 0 t) l)
       pub size : length o ≡ length w
 
-    pub in-half-begin : (w : List ℕ) → InHalf w w 0
-    in-half-begin w = record { none = λ h. refl; some = λ h. absurd (h refl); size = refl }
+    pub in-cells-begin : (w : List ℕ) → InCells w w 0
+    in-cells-begin w = record { none = λ h. refl; some = λ h. absurd (h refl); size = refl }
 
-    pub in-half-next : (w o q : List ℕ) (t n : ℕ) → t < n → InHalf w o t
-        → Lined (g .m - 1) (g .b) 0 o q (λ r l. begun (over t n) o last (r * g .b) l ⊕ windowOf g s e ((r + d) % g .m) (over t n) l) → InHalf w q n
-    in-half-next w o q t n h p f = record {
+    pub in-cells-next : (w o q : List ℕ) (t n : ℕ) → t < n → InCells w o t
+        → Lined rows (g .b) 0 o q (λ r l. begun (over t n) o seed (r * g .b) l ⊕ windowOf g s e ((r + d) % g .m) (over t n) l) → InCells w q n
+    in-cells-next w o q t n h p f = record {
       none = λ z. absurd (omega arith);
       some = λ _. elim (ℕ-discrete t 0) [
         | yes z ↦
-            subst (λ (x : List ℕ). Lined (g .m - 1) (g .b) 0 x q (λ r l. getD w (last + l) 0 ⊕ windowOf g s e ((r + d) % g .m) (over 0 n) l)) (p .none z) (lined-same f (λ r l hr hl.
-            ap₂ _⊕_ (begun-first (over t n) last (r * g .b) l o z ∙ ap (λ (x : List ℕ). getD x (last + l) 0) (p .none z)) (ap (λ (x : ℕ). windowOf g s e ((r + d) % g .m) (over x n) l) z)))
+            subst (λ (x : List ℕ). Lined rows (g .b) 0 x q (λ r l. getD w (seed + l) 0 ⊕ windowOf g s e ((r + d) % g .m) (over 0 n) l)) (p .none z) (lined-same f (λ r l hr hl.
+            ap₂ _⊕_ (begun-first (over t n) seed (r * g .b) l o z ∙ ap (λ (x : List ℕ). getD x (seed + l) 0) (p .none z)) (ap (λ (x : ℕ). windowOf g s e ((r + d) % g .m) (over x n) l) z)))
         | no z ↦
             let a = p .some z in record {
               size = f .size ∙ a .size;
               inside = λ r l hr hl.
                   let x : r * g .b + l ≡ 0 + (r * g .b + l) = omega arith in
-                  onward (getD w (last + l) 0) ((r + d) % g .m) t n l (getD q (0 + (r * g .b + l)) 0) z (a .inside r l hr hl)
-                  (f .inside r l hr hl ∙ ap (λ (y : ℕ). y ⊕ windowOf g s e ((r + d) % g .m) (over t n) l) (begun-next (over t n) last (r * g .b) l o z ∙ ap (λ (y : ℕ). getD o y 0) x));
+                  onward (getD w (seed + l) 0) ((r + d) % g .m) t n l (getD q (0 + (r * g .b + l)) 0) z (a .inside r l hr hl)
+                  (f .inside r l hr hl ∙ ap (λ (y : ℕ). y ⊕ windowOf g s e ((r + d) % g .m) (over t n) l) (begun-next (over t n) seed (r * g .b) l o z ∙ ap (λ (y : ℕ). getD o y 0) x));
               before = λ x hx. f .before x hx ∙ a .before x hx;
               after = λ x hx. f .after x hx ∙ a .after x hx;
             }

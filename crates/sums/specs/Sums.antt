@@ -7,11 +7,13 @@
 --   Lining, OneLine          a line over at most eight columns, and over any number from 0 on, and the cell that it is summed in
 --   Turning                  a column that can be added to a column of n bytes, turned so that cell r gets what line r + shift has there
 --   Half                     lines that can be followed through those columns, one for each cell of a column of n bytes
---   HalfLines, WholeLines    the same of data columns, at most eight, and any number from 0 on
+--   RoomForCells g p n seed  of p bytes the first n cells, and what each begins with: the cell at `seed`, which is not before the last of them. Short cells
+--                            are a column, and begin with its last cell
+--   SomeColumns, AllColumns  lines that can be followed through those data columns, at most eight, and any number from 0 on
 use mathlib.Core.Path.{_≡_}
 use mathlib.Core.Bool.{cond}
 use mathlib.Core.List.{List}
-use Prim.Native.Nat.{ℕ, _+_, _*_, _≤_, _<_}
+use Prim.Native.Nat.{ℕ, _+_, _*_, _-_, _≤_, _<_}
 use lib.Dec.{eqb}
 use lib.ListN.{length, getD}
 use Rattle.parity.specs.Xor.{_⊕_}
@@ -78,18 +80,21 @@ pub record Half (g : Grid) (s : List ℕ) (n e d : ℕ) (columns : Columns) : Ty
   pub shift : d < g .m
   pub crosses : Crosses (g .m) (g .column) (length s) e 0 (columns .from) (columns .to)
 
-pub record HalfLines (g : Grid) (s : List ℕ) (n e d : ℕ) (columns : Columns) : Type 0 where
+pub record RoomForCells (g : Grid) (p n seed : ℕ) : Type 0 where
+  pub before : n * g .b ≤ seed + g .b
+  pub room : seed + g .b ≤ p
+  pub short : g .b < 128 → (n ≡ g .m - 1) × (seed ≡ (g .m - 2) * g .b) × (p ≡ g .column)
+
+pub record SomeColumns (g : Grid) (s : List ℕ) (e d : ℕ) (columns : Columns) : Type 0 where
   pub laid : Laid g s
-  pub whole : n ≡ g .column
   pub slant : e ≤ 1
   pub shift : d < g .m
   pub order : columns .from ≤ columns .to
   pub most : columns .to ≤ g .k
   pub group : columns .to ≤ columns .from + 8
 
-pub record WholeLines (g : Grid) (s : List ℕ) (n e d : ℕ) (columns : Columns) : Type 0 where
+pub record AllColumns (g : Grid) (s : List ℕ) (e d : ℕ) (columns : Columns) : Type 0 where
   pub laid : Laid g s
-  pub whole : n ≡ g .column
   pub slant : e ≤ 1
   pub shift : d < g .m
   pub first : columns .from ≡ 0

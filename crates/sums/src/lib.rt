@@ -12,7 +12,7 @@ ghost use Rattle.parity.specs.Xor.{_⊕_};
 ghost use Rattle.cells.specs.Runs.{Put};
 ghost use Rattle.lines.specs.Lines.{ahead, Sized};
 ghost use Rattle.lines.specs.Rows.{Lined};
-ghost use Rattle.sums.specs.Sums.{filled, Filling, begun, windowOf, cellOf, spanOf, Lining, OneLine, Turning, Half, HalfLines, WholeLines};
+ghost use Rattle.sums.specs.Sums.{filled, Filling, begun, windowOf, cellOf, spanOf, Lining, OneLine, Turning, Half, RoomForCells, SomeColumns, AllColumns};
 
 // The lanes from j on of the cell of w at `to`, as many as acc has, become those of its seed plus the cells of s at the places `at`. acc is room for
 // them.
@@ -150,18 +150,26 @@ pub fn sum_line(
     }
 }
 
-// Every cell r of a column gets line r + shift modulo m over those columns, at most eight: cell by cell. Where they are the first, each begins with what
-// the last cell holds.
-fn lines_by_cells(half: &mut [u8], s: &[u8], g: Grid, slant: usize, shift: usize, columns: Columns)
-    requires { ⌜ HalfLines g (now s) (length (now half)) slant shift columns ⌝ }
-    ensures { λ _. ⌜ Lined (g .m - 1) (g .b) 0 (now (half .entry)) (now (half .exit)) (λ r l. begun columns (now (half .entry)) ((g .m - 2) * g .b) (r * g .b) l ⊕ windowOf g (now (s .entry)) slant (ahead (g .m) r shift) columns l) ⌝ }
+// Of the first n cells of w each cell r gets line r + shift modulo m over those columns, at most eight: cell by cell. Where they are the first, each begins
+// with what the cell at `seed` holds.
+fn lines_by_cells(
+    w: &mut [u8],
+    seed: usize,
+    n: usize,
+    s: &[u8],
+    g: Grid,
+    slant: usize,
+    shift: usize,
+    columns: Columns,
+)
+    requires { ⌜ RoomForCells g (length (now w)) n seed × SomeColumns g (now s) slant shift columns ⌝ }
+    ensures { λ _. ⌜ Lined n (g .b) 0 (now (w .entry)) (now (w .exit)) (λ r l. begun columns (now (w .entry)) seed (r * g .b) l ⊕ windowOf g (now (s .entry)) slant (ahead (g .m) r shift) columns l) ⌝ }
 {
     let m = g.m;
     let b = g.b;
-    let last = (m - 2) * b;
     let mut i = shift;
-    for r in 0..m - 1 {
-        fill_line(half, last, s, g, slant, i, columns, r * b);
+    for r in 0..n {
+        fill_line(w, seed, s, g, slant, i, columns, r * b);
         i = lines::row_below(m, i);
     }
 }
@@ -222,7 +230,7 @@ fn lines_by_columns(
     shift: usize,
     columns: Columns,
 )
-    requires { ⌜ HalfLines g (now s) (length (now half)) slant shift columns ⌝ }
+    requires { ⌜ (length (now half) ≡ g .column) × SomeColumns g (now s) slant shift columns ⌝ }
     ensures { λ _. ⌜ Lined (g .m - 1) (g .b) 0 (now (half .entry)) (now (half .exit)) (λ r l. begun columns (now (half .entry)) ((g .m - 2) * g .b) (r * g .b) l ⊕ windowOf g (now (s .entry)) slant (ahead (g .m) r shift) columns l) ⌝ }
 {
     if columns.from != 0 {
@@ -235,29 +243,57 @@ fn lines_by_columns(
     add_columns(half, s, g, slant, shift, columns);
 }
 
-// Every cell r of a column gets line r + shift modulo m over those columns, at most eight, in the way that suits the cells. Where they are the first, each
-// begins with what the last cell holds.
-pub fn sum_lines(half: &mut [u8], s: &[u8], g: Grid, slant: usize, shift: usize, columns: Columns)
-    requires { ⌜ HalfLines g (now s) (length (now half)) slant shift columns ⌝ }
-    ensures { λ _. ⌜ Lined (g .m - 1) (g .b) 0 (now (half .entry)) (now (half .exit)) (λ r l. begun columns (now (half .entry)) ((g .m - 2) * g .b) (r * g .b) l ⊕ windowOf g (now (s .entry)) slant (ahead (g .m) r shift) columns l) ⌝ }
+// Of the first n cells of w each cell r gets line r + shift modulo m over those columns, at most eight, in the way that suits the cells: short ones are a
+// column. Where the columns are the first, each begins with what the cell at `seed` holds.
+pub fn sum_lines(
+    w: &mut [u8],
+    seed: usize,
+    n: usize,
+    s: &[u8],
+    g: Grid,
+    slant: usize,
+    shift: usize,
+    columns: Columns,
+)
+    requires { ⌜ RoomForCells g (length (now w)) n seed × SomeColumns g (now s) slant shift columns ⌝ }
+    ensures { λ _. ⌜ Lined n (g .b) 0 (now (w .entry)) (now (w .exit)) (λ r l. begun columns (now (w .entry)) seed (r * g .b) l ⊕ windowOf g (now (s .entry)) slant (ahead (g .m) r shift) columns l) ⌝ }
 {
     if 128 <= g.b {
-        lines_by_cells(half, s, g, slant, shift, columns);
+        lines_by_cells(w, seed, n, s, g, slant, shift, columns);
     } else {
-        lines_by_columns(half, s, g, slant, shift, columns);
+        lines_by_columns(w, s, g, slant, shift, columns);
     }
 }
 
-// Every cell r of a column becomes what the last cell holds plus line r + shift modulo m, with its end, over those columns, which begin with column 0.
-pub fn sum_half(half: &mut [u8], s: &[u8], g: Grid, slant: usize, shift: usize, columns: Columns)
-    requires { ⌜ WholeLines g (now s) (length (now half)) slant shift columns ⌝ }
-    ensures { λ _. ⌜ Lined (g .m - 1) (g .b) 0 (now (half .entry)) (now (half .exit)) (λ r l. getD (now (half .entry)) ((g .m - 2) * g .b + l) 0 ⊕ windowOf g (now (s .entry)) slant (ahead (g .m) r shift) columns l) ⌝ }
+// Of the first n cells of w each cell r becomes what the cell at `seed` holds plus line r + shift modulo m, with its end, over those columns, which begin with
+// column 0.
+pub fn sum_cells(
+    w: &mut [u8],
+    seed: usize,
+    n: usize,
+    s: &[u8],
+    g: Grid,
+    slant: usize,
+    shift: usize,
+    columns: Columns,
+)
+    requires { ⌜ RoomForCells g (length (now w)) n seed × AllColumns g (now s) slant shift columns ⌝ }
+    ensures { λ _. ⌜ Lined n (g .b) 0 (now (w .entry)) (now (w .exit)) (λ r l. getD (now (w .entry)) (seed + l) 0 ⊕ windowOf g (now (s .entry)) slant (ahead (g .m) r shift) columns l) ⌝ }
 {
     let end = columns.to;
     let mut t: usize = 0;
     while t < end {
         let e = lines::group_end(t, end);
-        sum_lines(half, s, g, slant, shift, lines::part_of(columns, t, e));
+        sum_lines(
+            w,
+            seed,
+            n,
+            s,
+            g,
+            slant,
+            shift,
+            lines::part_of(columns, t, e),
+        );
         t = e;
     }
 }

@@ -29,7 +29,7 @@ put-total-requires : tie.Need-put-total-requires
 put-total-requires c κs =
     let z = c .before .before .before in
     let a = z .args in
-    record { laid = z .pre .0 .laid; whole = half-whole (now (a .bench)) (a .g .column) _ (omega arith) (omega (arith, z .pre .0 .bench)) (omega arith) }
+    (half-whole (now (a .bench)) (a .g .column) _ (omega arith) (omega (arith, z .pre .0 .bench)) (omega arith), z .pre .0 .laid)
 
 put-both-requires : tie.Need-put-both-requires
 put-both-requires c κs =

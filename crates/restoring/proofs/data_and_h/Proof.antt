@@ -5,7 +5,7 @@ use denote.Ref.{now}
 use Rattle.parity.specs.Equations.{back}
 use Rattle.lines.proofs.Lines.{back-lt, column-is}
 use Rattle.restoring.proofs.Bench.{half-whole, lent-lined}
-use Rattle.restoring.proofs.Steps.{data-h}
+use Rattle.restoring.proofs.Steps.{half-band, data-h}
 use borrow.Author.Needs.{needs}
 use native.Mathlib.Omega.{arith}
 use Rattle.restoring.proofs.data_and_h.Statement.{statement}
@@ -27,6 +27,9 @@ part-put-diagonals-start c = search needs
 part-put-diagonals-end : tie.Need-part-put-diagonals-end
 part-put-diagonals-end c = search needs
 
+sub-put-diagonals-2 : tie.Need-sub-put-diagonals-2
+sub-put-diagonals-2 c = omega (arith, c .before .before .before .pre .0 .laid .sized .big)
+
 row-above-requires : tie.Need-row-above-requires
 row-above-requires c κs = search needs
 
@@ -36,7 +39,7 @@ put-diagonals-requires c κs =
     let a = z .args in (
       subst (λ (x : ℕ). x < a .g .m) (sym (c .row-above .ensures)) (back-lt (a .g .m) (a .u) 1 (omega (arith, z .pre .0 .laid .sized .big))),
       omega (arith, z .pre .1, z .pre .0 .laid .few),
-      record { laid = z .pre .0 .laid; whole = half-whole (now (a .bench)) 0 (a .g .column) (omega arith) (omega (arith, z .pre .0 .bench)) (omega arith) },
+      half-band (z .pre .0 .laid) (half-whole (now (a .bench)) 0 (a .g .column) (omega arith) (omega (arith, z .pre .0 .bench)) (omega arith)),
     )
 
 sub-put-rows : tie.Need-sub-put-rows
@@ -48,12 +51,15 @@ part-put-rows-start c = search needs
 part-put-rows-end : tie.Need-part-put-rows-end
 part-put-rows-end c = search needs
 
+sub-put-rows-2 : tie.Need-sub-put-rows-2
+sub-put-rows-2 c = omega (arith, c .before .before .before .before .before .before .before .before .pre .0 .laid .sized .big)
+
 put-rows-requires : tie.Need-put-rows-requires
 put-rows-requires c κs =
     let z = c .before .before .before .before .before .before .before .before in
     let a = z .args in
     let p = lent-lined (now (a .bench)) (c .before .before .before .put-diagonals .last .0) 0 (a .g .column) (omega arith) (omega (arith, z .pre .0 .bench)) (omega (arith, column-is (a .g .m) (a .g .b) (a .g .column) (z .pre .0 .laid .sized))) (c .before .before .before .put-diagonals .ensures) in
-    record { laid = z .pre .0 .laid; whole = half-whole _ (a .g .column) _ (omega arith) (omega (arith, z .pre .0 .bench, p .size)) (omega arith) }
+    (omega (arith, z .pre .0 .laid .sized .big), half-band (z .pre .0 .laid) (half-whole _ (a .g .column) _ (omega arith) (omega (arith, z .pre .0 .bench, p .size)) (omega arith)))
 
 add-within-requires : tie.Need-add-within-requires
 add-within-requires c κs =
@@ -84,11 +90,13 @@ data-and-h-spec =
     sub-put-diagonals
     part-put-diagonals-start
     part-put-diagonals-end
+    sub-put-diagonals-2
     row-above-requires
     put-diagonals-requires
     sub-put-rows
     part-put-rows-start
     part-put-rows-end
+    sub-put-rows-2
     put-rows-requires
     add-within-requires
     same-length

@@ -41,20 +41,20 @@ sub-total-cells-3 : tie.Need-sub-total-cells-3
 sub-total-cells-3 c = search needs
 
 mul-total-cells-2 : tie.Need-mul-total-cells-2
-mul-total-cells-2 c = omega (arith, last-cell (c .before .before .before .before .before .before .before .before .pre .laid .sized) 0, c .before .before .before .before .before .before .before .before .pre .whole)
+mul-total-cells-2 c = omega (arith, last-cell (c .before .before .before .before .before .before .before .before .pre .1 .sized) 0, c .before .before .before .before .before .before .before .before .pre .0)
 
 total-cells-requires : tie.Need-total-cells-requires
 total-cells-requires c κs =
     let z = c .before .before .before .before .before .before .before .before in
     let a = z .args in
-    let e = last-cell (z .pre .laid .sized) 0 in
+    let e = last-cell (z .pre .1 .sized) 0 in
     record {
-      filled = z .pre .laid .sized .filled;
-      short = z .pre .laid .sized .short;
-      some = omega (arith, z .pre .laid .sized .big);
-      most = omega (arith, z .pre .laid .sized .few);
-      cells = omega (arith, column-is (a .g .m) (a .g .b) (a .g .column) (z .pre .laid .sized), half-whole (now (a .s)) (a .g .k * a .g .column) (a .g .k * a .g .column + 2 * a .g .column) (omega arith) (omega (arith, z .pre .laid .whole)) refl);
-      room = omega (arith, z .pre .whole);
+      filled = z .pre .1 .sized .filled;
+      short = z .pre .1 .sized .short;
+      some = omega (arith, z .pre .1 .sized .big);
+      most = omega (arith, z .pre .1 .sized .few);
+      cells = omega (arith, column-is (a .g .m) (a .g .b) (a .g .column) (z .pre .1 .sized), half-whole (now (a .s)) (a .g .k * a .g .column) (a .g .k * a .g .column + 2 * a .g .column) (omega arith) (omega (arith, z .pre .1 .whole)) refl);
+      room = omega (arith, z .pre .0);
     }
 
 same-length : tie.Need-same-length
@@ -64,7 +64,7 @@ returns : tie.Need-returns
 returns c =
     let z = c .before .before .before .before .before .before .before .before .before .before .before in
     let a = z .args in
-    put-same (c .before .before .total-cells .ensures) (λ l h. two-sum (z .pre .laid .sized) (now (a .s)) (a .g .k) (a .g .k * a .g .column) l refl h ∙ both-columns (a .g .m) (lane (a .g .m) (a .g .b) (now (a .s)) l) (a .g .k))
+    put-same (c .before .before .total-cells .ensures) (λ l h. two-sum (z .pre .1 .sized) (now (a .s)) (a .g .k) (a .g .k * a .g .column) l refl h ∙ both-columns (a .g .m) (lane (a .g .m) (a .g .b) (now (a .s)) l) (a .g .k))
 
 pub put-total-spec : {M : Type 1} → statement M
 put-total-spec =

@@ -7,9 +7,7 @@ use Rattle.parity.specs.Xor.{_⊕_}
 use Rattle.cells.proofs.Parts.{parts-end}
 use Rattle.cells.proofs.Puts.{put-same}
 use Rattle.lines.specs.Rows.{Lined}
-use Rattle.lines.proofs.Lines.{column-is}
 use Rattle.lines.proofs.Rows.{lined-none, lined-count}
-use Rattle.lines.proofs.Turned.{last-cell}
 use Rattle.sums.specs.Sums.{begun, windowOf}
 use Rattle.sums.proofs.Sweeps.{line-lt, line-next, cells-next}
 use borrow.Author.Needs.{needs}
@@ -18,53 +16,44 @@ use Rattle.sums.proofs.lines_by_cells.Statement.{statement}
 use Rattle.sums.proofs.lines_by_cells.Tie as tie
 
 abbrev Inv-loop : tie.InvT-loop
-Inv-loop half₀ s g slant shift columns m b last i₀ r₀ r-end half i r =
-    (r ≤ r-end) × (i ≡ (r + shift) % g .m)
-    × Lined r (g .b) 0 half₀ half (λ r l. begun columns half₀ ((g .m - 2) * g .b) (r * g .b) l ⊕ windowOf g s slant ((r + shift) % g .m) columns l)
+Inv-loop w₀ seed n s g slant shift columns m b i₀ r₀ w i r =
+    (r ≤ n) × (i ≡ (r + shift) % g .m)
+    × Lined r (g .b) 0 w₀ w (λ r l. begun columns w₀ seed (r * g .b) l ⊕ windowOf g s slant ((r + shift) % g .m) columns l)
 
 abbrev μ-loop : tie.MeasureT-loop
-μ-loop half₀ s g slant shift columns m b last i₀ r₀ r-end half i r = r-end - r
-
-sub-last : tie.Need-sub-last Inv-loop μ-loop
-sub-last c = omega (arith, c .before .before .pre .laid .sized .big)
-
-mul-last : tie.Need-mul-last Inv-loop μ-loop
-mul-last c = omega (arith, last-cell (c .before .before .pre .laid .sized) 0, c .before .before .pre .whole)
-
-sub-r-end : tie.Need-sub-r-end Inv-loop μ-loop
-sub-r-end c = omega (arith, c .before .before .pre .laid .sized .big)
+μ-loop w₀ seed n s g slant shift columns m b i₀ r₀ w i r = n - r
 
 loop-holds : tie.Need-loop-holds Inv-loop μ-loop
 loop-holds c =
     let z = c .before .before in
     let a = z .args in
     let e : a .shift ≡ 0 + a .shift = omega arith in
-    (omega arith, sym (mod-eq-of-lt (z .pre .shift)) ∙ ap (λ (x : ℕ). x % a .g .m) e, lined-none (a .g .b) 0 (now (a .half)) _)
+    (omega arith, sym (mod-eq-of-lt (z .pre .1 .shift)) ∙ ap (λ (x : ℕ). x % a .g .m) e, lined-none (a .g .b) 0 (now (a .w)) _)
 
 mul-fill-line : tie.Need-mul-fill-line Inv-loop μ-loop
 mul-fill-line c =
     let z = c .before .before .before .before .before in
-    omega (arith, parts-end (z .args .g .b) (c .before .loop-test .taken), z .pre .whole, column-is (z .args .g .m) (z .args .g .b) (z .args .g .column) (z .pre .laid .sized))
+    omega (arith, parts-end (z .args .g .b) (c .before .loop-test .taken), z .pre .0 .before, z .pre .0 .room)
 
 fill-line-requires : tie.Need-fill-line-requires Inv-loop μ-loop
 fill-line-requires c κs =
     let z = c .before .before .before .before .before in
     let a = z .args in
     let y = c .before .before .loop in
+    let p = z .pre .1 in
     let end = parts-end (a .g .b) (c .before .loop-test .taken) in
-    let e = last-cell (z .pre .laid .sized) 0 in
     record {
-      laid = z .pre .laid;
-      slant = z .pre .slant;
-      inside = line-lt (y .r + a .shift) (omega (arith, z .pre .laid .sized .big)) (y .inv .1);
-      order = z .pre .order;
-      most = z .pre .most;
-      group = z .pre .group;
+      laid = p .laid;
+      slant = p .slant;
+      inside = line-lt (y .r + a .shift) (omega (arith, p .shift)) (y .inv .1);
+      order = p .order;
+      most = p .most;
+      group = p .group;
       room = record {
-        inside = omega (arith, y .inv .2 .size, z .pre .whole, column-is (a .g .m) (a .g .b) (a .g .column) (z .pre .laid .sized));
-        later = omega (arith, column-is (a .g .m) (a .g .b) (a .g .column) (z .pre .laid .sized));
-        near = omega (arith, y .inv .2 .size, z .pre .whole);
-        whole = λ _. omega (arith, y .inv .2 .size, z .pre .whole);
+        inside = omega (arith, end, y .inv .2 .size, z .pre .0 .before, z .pre .0 .room);
+        later = omega (arith, end, z .pre .0 .before);
+        near = omega (arith, y .inv .2 .size, z .pre .0 .room);
+        whole = λ _. omega (arith, y .inv .2 .size, z .pre .0 .room);
       };
     }
 
@@ -72,7 +61,7 @@ row-below-requires : tie.Need-row-below-requires Inv-loop μ-loop
 row-below-requires c κs =
     let z = c .before .before .before .before .before .before .before .before in
     let y = c .before .before .before .before .before .loop in
-    (line-lt (y .r + z .args .shift) (omega (arith, z .pre .laid .sized .big)) (y .inv .1), z .pre .laid .sized .few)
+    (line-lt (y .r + z .args .shift) (omega (arith, z .pre .1 .shift)) (y .inv .1), z .pre .1 .laid .sized .few)
 
 add-r : tie.Need-add-r Inv-loop μ-loop
 add-r c = search needs
@@ -86,13 +75,12 @@ loop-again c =
     let a = z .args in
     let y = c .before .before .before .before .before .before .loop in
     let f = c .before .before .before .fill-line in
-    let end = parts-end (a .g .b) (c .before .before .before .before .before .loop-test .taken) in
-    let e = last-cell (z .pre .laid .sized) 0 in (
+    let end = parts-end (a .g .b) (c .before .before .before .before .before .loop-test .taken) in (
       omega arith,
       c .row-below .ensures ∙ ap (λ (x : ℕ). (x + 1) % a .g .m) (y .inv .1) ∙ line-next (a .g .m) (y .r) (a .shift),
-      cells-next (a .columns) (a .g .b) ((a .g .m - 2) * a .g .b) (y .r) (now (a .half)) (y .half) (f .last .0) (λ r l. windowOf (a .g) (now (a .s)) (a .slant) ((r + a .shift) % a .g .m) (a .columns) l)
-          (omega (arith, column-is (a .g .m) (a .g .b) (a .g .column) (z .pre .laid .sized))) (y .inv .2)
-          (put-same (f .ensures) (λ l h. ap (λ (x : ℕ). begun (a .columns) (y .half) ((a .g .m - 2) * a .g .b) (y .r * a .g .b) l ⊕ windowOf (a .g) (now (a .s)) (a .slant) x (a .columns) l) (y .inv .1))),
+      cells-next (a .columns) (a .g .b) (a .seed) (y .r) (now (a .w)) (y .w) (f .last .0) (λ r l. windowOf (a .g) (now (a .s)) (a .slant) ((r + a .shift) % a .g .m) (a .columns) l)
+          (omega (arith, end, z .pre .0 .before)) (y .inv .2)
+          (put-same (f .ensures) (λ l h. ap (λ (x : ℕ). begun (a .columns) (y .w) (a .seed) (y .r * a .g .b) l ⊕ windowOf (a .g) (now (a .s)) (a .slant) x (a .columns) l) (y .inv .1))),
     )
 
 same-length : tie.Need-same-length Inv-loop μ-loop
@@ -107,9 +95,6 @@ lines-by-cells-spec =
     (tie.spec
     Inv-loop
     μ-loop
-    sub-last
-    mul-last
-    sub-r-end
     loop-holds
     mul-fill-line
     fill-line-requires

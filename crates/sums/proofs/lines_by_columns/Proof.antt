@@ -24,7 +24,7 @@ use Rattle.sums.proofs.lines_by_columns.Tie as tie
 add-columns-requires : tie.Need-add-columns-requires
 add-columns-requires c κs =
     let z = c .before .before .before .before .before in
-    record { sized = z .pre .laid .sized; whole = z .pre .whole; shift = z .pre .shift; crosses = lines-cross (z .pre .laid) (z .pre .slant) (omega (arith, z .pre .shift)) (z .pre .order) (z .pre .most) }
+    record { sized = z .pre .1 .laid .sized; whole = z .pre .0; shift = z .pre .1 .shift; crosses = lines-cross (z .pre .1 .laid) (z .pre .1 .slant) (omega (arith, z .pre .1 .shift)) (z .pre .1 .order) (z .pre .1 .most) }
 
 same-length : tie.Need-same-length
 same-length c = search needs
@@ -39,13 +39,13 @@ returns c =
     (sym (window-next (a .g .m) (a .g .k) (laneOf (a .g) (now (a .s)) (a .columns) l) (a .slant) ((r + a .shift) % a .g .m) (a .columns .from) (a .columns .to) h)))
 
 add-end : tie.Need-add-end
-add-end c = omega (arith, c .before .before .before .before .before .pre .laid .few, c .before .before .before .before .before .pre .laid .sized .few, c .before .before .before .before .before .pre .slant)
+add-end c = omega (arith, c .before .before .before .before .before .pre .1 .laid .few, c .before .before .before .before .before .pre .1 .laid .sized .few, c .before .before .before .before .before .pre .1 .slant)
 
 repeat-last-requires : tie.Need-repeat-last-requires
-repeat-last-requires c κs = (c .before .before .before .before .before .before .pre .whole, c .before .before .before .before .before .before .pre .laid .sized)
+repeat-last-requires c κs = (c .before .before .before .before .before .before .pre .0, c .before .before .before .before .before .before .pre .1 .laid .sized)
 
 add-part-of : tie.Need-add-part-of
-add-part-of c = omega (arith, c .before .before .before .before .before .before .before .before .before .before .pre .laid .few, c .before .before .before .before .before .before .before .before .before .before .pre .laid .sized .few, c .before .before .before .before .before .before .before .before .before .before .pre .slant)
+add-part-of c = omega (arith, c .before .before .before .before .before .before .before .before .before .before .pre .1 .laid .few, c .before .before .before .before .before .before .before .before .before .before .pre .1 .laid .sized .few, c .before .before .before .before .before .before .before .before .before .before .pre .1 .slant)
 
 part-of-requires : tie.Need-part-of-requires
 part-of-requires c κs = search needs
@@ -56,20 +56,20 @@ add-columns-requires-2 c κs =
     let a = z .args in
     let y = c .before .before .before .before .repeat-last in
     subst (λ (x : Columns). Half (a .g) (now (a .s)) (length (y .last .0)) 0 (a .shift) x) (sym (c .part-of .ensures)) (record {
-      sized = z .pre .laid .sized;
-      whole = omega (arith, z .pre .whole, y .ensures .size);
-      shift = z .pre .shift;
-      crosses = row-crosses (z .pre .laid .sized) (z .pre .laid .few) (z .pre .laid .whole) (omega (arith, z .pre .shift)) (omega arith) (omega (arith, z .pre .slant));
+      sized = z .pre .1 .laid .sized;
+      whole = omega (arith, z .pre .0, y .ensures .size);
+      shift = z .pre .1 .shift;
+      crosses = row-crosses (z .pre .1 .laid .sized) (z .pre .1 .laid .few) (z .pre .1 .laid .whole) (omega (arith, z .pre .1 .shift)) (omega arith) (omega (arith, z .pre .1 .slant));
     })
 
 add-columns-requires-3 : tie.Need-add-columns-requires-3
 add-columns-requires-3 c κs =
     let z = c .before .before .before .before .before .before .before .before .before .before .before .before .before .before .before in
     record {
-      sized = z .pre .laid .sized;
-      whole = omega (arith, z .pre .whole, c .before .before .before .before .before .before .before .before .repeat-last .ensures .size, c .before .before .before .add-columns2 .ensures .size);
-      shift = z .pre .shift;
-      crosses = lines-cross (z .pre .laid) (z .pre .slant) (omega (arith, z .pre .shift)) (z .pre .order) (z .pre .most);
+      sized = z .pre .1 .laid .sized;
+      whole = omega (arith, z .pre .0, c .before .before .before .before .before .before .before .before .repeat-last .ensures .size, c .before .before .before .add-columns2 .ensures .size);
+      shift = z .pre .1 .shift;
+      crosses = lines-cross (z .pre .1 .laid) (z .pre .1 .slant) (omega (arith, z .pre .1 .shift)) (z .pre .1 .order) (z .pre .1 .most);
     }
 
 same-length-2 : tie.Need-same-length-2
@@ -93,7 +93,7 @@ returns-2 c =
     let n = laneOf (a .g) s (a .columns) l in
     ⊕-assoc (getD w ((m - 2) * b + l) 0) (spanOf (a .g) s 0 i (record { from = end; to = end + 1; u = a .columns .u; v = a .columns .v }) l) (spanOf (a .g) s (a .slant) i (a .columns) l)
     ∙ ap₂ _⊕_ (sym (begun-first (a .columns) ((m - 2) * b) (r * b) l w zero))
-    (ap₂ _⊕_ (cell-span m n i end (mod-lt (r + a .shift) (omega (arith, z .pre .shift)))) (ap (λ (x : ℕ). span m n (a .slant) i x (a .columns .to)) zero)
+    (ap₂ _⊕_ (cell-span m n i end (mod-lt (r + a .shift) (omega (arith, z .pre .1 .shift)))) (ap (λ (x : ℕ). span m n (a .slant) i x (a .columns .to)) zero)
     ∙ sym (window-start m (a .g .k) n (a .slant) i (a .columns .to)) ∙ ap (λ (x : ℕ). window m (a .g .k) n (a .slant) i x (a .columns .to)) (sym zero)))
 
 pub lines-by-columns-spec : {M : Type 1} → statement M

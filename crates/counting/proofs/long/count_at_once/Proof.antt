@@ -1,13 +1,13 @@
 -- `counting::long::count_at_once` meets its contract: the lines are held to an empty cell, which is zero as row m - 1 is, or to line m - 1.
-use mathlib.Core.Path.{sym, ap, _∙_}
-use Prim.Native.Nat.{ℕ, _-_}
+use mathlib.Core.Path.{sym, ap}
+use Prim.Native.Nat.{ℕ}
 use denote.Ref.{now}
 use Rattle.parity.specs.Xor.{_⊕_}
 use Rattle.parity.specs.Stripe.{lane}
 use Rattle.cells.proofs.Puts.{put-start}
 use Rattle.counting.specs.Counting.{testLine}
 use Rattle.counting.proofs.Buts.{but-last}
-use Rattle.counting.proofs.Breaking.{breaking-cong}
+use Rattle.counting.proofs.Found.{found-cong}
 use borrow.Author.Needs.{needs}
 use Rattle.counting.proofs.long.count_at_once.Statement.{statement}
 use Rattle.counting.proofs.long.count_at_once.Tie as tie
@@ -31,7 +31,7 @@ returns : tie.Need-returns
 returns c =
     let z = c .before .before .before .before .before .before .before in
     let a = z .args in
-    c .before .count-folded .ensures ∙ breaking-cong (a .g .m - 1) (a .g .b) (λ i l _ _.
+    found-cong (c .before .count-folded .ensures) (λ i l _ _.
     ap (λ (v : ℕ). v ⊕ testLine (a .g) (now (a .s)) (a .u) i l) (sym (but-last (a .g .m) (a .g .k) (z .pre .2 .sized .big) (z .pre .2 .few) (lane (a .g .m) (a .g .b) (now (a .s)) l) (a .u) (c .before .before .before .before .if1 .taken))))
 
 slice-aggregate-sum-last : tie.Need-slice-aggregate-sum-last
@@ -55,7 +55,7 @@ count-folded-requires-2 c κs = search needs
 returns-2 : tie.Need-returns-2
 returns-2 c =
     let a = c .before .before .before .before .before .before .before .before .before .before .before .before .args in
-    c .before .count-folded2 .ensures ∙ breaking-cong (a .g .m - 1) (a .g .b) (λ i l _ h.
+    found-cong (c .before .count-folded2 .ensures) (λ i l _ h.
     ap (λ (v : ℕ). v ⊕ testLine (a .g) (now (a .s)) (a .u) i l) (put-start (c .before .before .before .before .before .before .sum-last .ensures) l h))
 
 pub count-at-once-spec : {M : Type 1} → statement M

@@ -1,10 +1,10 @@
 -- `counting::long::count_in_bands` meets its contract: line m - 1 stands after the band, and each other line is held to it.
-use mathlib.Core.Path.{ap, _∙_}
-use Prim.Native.Nat.{ℕ, _-_}
+use mathlib.Core.Path.{ap}
+use Prim.Native.Nat.{ℕ}
 use denote.Ref.{now}
 use Rattle.parity.specs.Xor.{_⊕_}
 use Rattle.counting.specs.Counting.{testLine}
-use Rattle.counting.proofs.Breaking.{breaking-cong}
+use Rattle.counting.proofs.Found.{found-cong}
 use borrow.Author.Needs.{needs}
 use Rattle.counting.proofs.long.count_in_bands.Statement.{statement}
 use Rattle.counting.proofs.long.count_in_bands.Tie as tie
@@ -30,7 +30,7 @@ count-bands-requires c κs = search needs
 returns : tie.Need-returns
 returns c =
     let a = c .before .before .before .before .before .before .before .before .before .before .before .args in
-    c .before .before .count-bands .ensures ∙ breaking-cong (a .g .m - 1) (a .g .b) (λ i l _ h. ap (λ (v : ℕ). v ⊕ testLine (a .g) (now (a .s)) (a .u) i l) (c .before .before .before .before .before .before .before .sum-last .ensures .inside l h))
+    found-cong (c .before .before .count-bands .ensures) (λ i l _ h. ap (λ (v : ℕ). v ⊕ testLine (a .g) (now (a .s)) (a .u) i l) (c .before .before .before .before .before .before .before .sum-last .ensures .inside l h))
 
 pub count-in-bands-spec : {M : Type 1} → statement M
 count-in-bands-spec =

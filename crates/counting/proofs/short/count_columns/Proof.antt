@@ -1,11 +1,10 @@
 -- `counting::short::count_columns` meets its contract: every cell starts with line m - 1, the lines are added, and what is not zero is counted.
-use mathlib.Core.Path.{_∙_}
 use Prim.Native.Nat.{_-_}
 use denote.Ref.{now}
 use Rattle.lines.proofs.Rows.{lined-grown}
 use Rattle.lines.proofs.Whole.{column-room}
 use Rattle.counting.specs.Counting.{testLine}
-use Rattle.counting.proofs.Breaking.{breaking-cong}
+use Rattle.counting.proofs.Found.{found-cong}
 use Rattle.counting.proofs.Bands.{band-at}
 use borrow.Author.Needs.{needs}
 use native.Mathlib.Omega.{arith}
@@ -35,7 +34,7 @@ same-length-2 c = search needs
 returns : tie.Need-returns
 returns c =
     let a = c .before .before .before .before .before .before .before .before .before .before .before .before .before .before .before .before .before .args in
-    c .count-cells .ensures ∙ breaking-cong (a .g .m - 1) (a .g .b) (band-at (lined-grown (a .g .m - 1) (a .g .b) 0 (λ r l. testLine (a .g) (now (a .s)) (a .u) r l) (c .before .before .before .before .before .before .before .before .before .before .start-lines .ensures) (c .before .before .before .before .add-lines .ensures)))
+    found-cong (c .count-cells .ensures) (band-at (lined-grown (a .g .m - 1) (a .g .b) 0 (λ r l. testLine (a .g) (now (a .s)) (a .u) r l) (c .before .before .before .before .before .before .before .before .before .before .start-lines .ensures) (c .before .before .before .before .add-lines .ensures)))
 
 pub count-columns-spec : {M : Type 1} → statement M
 count-columns-spec =

@@ -1,13 +1,13 @@
--- `counting::testing::count_cells` meets its contract. The invariant: c is the count of the cells before r. Where all bytes are zero, no cell is set.
-use mathlib.Core.Path.{_≡_, sym, ap, _∙_}
+-- `counting::testing::count_cells` meets its contract. The invariant: what was found of the cells before r. Where all bytes are zero, no cell is set.
+use mathlib.Core.Path.{_≡_, sym, ap, _∙_, subst}
 use mathlib.Core.Logic.{⊎-elim}
 use Prim.Native.Nat.{ℕ, _+_, _*_, _-_, _≤_}
 use lib.ListN.{getD}
 use denote.Ref.{now}
 use Rattle.cells.proofs.Parts.{part-at, parts-end}
 use Rattle.lines.proofs.Places.{part-length}
-use Rattle.counting.specs.Counting.{breaking}
-use Rattle.counting.proofs.Breaking.{breaking-none, breaking-same, breaking-more, zero-breaking}
+use Rattle.counting.specs.Counting.{Found}
+use Rattle.counting.proofs.Found.{seen, found-begin, found-clear, found-same, found-more, found-as, found-enough}
 use Rattle.counting.proofs.Bands.{tells-part}
 use borrow.Author.Needs.{needs}
 use native.Mathlib.Omega.{arith}
@@ -15,11 +15,11 @@ use Rattle.counting.proofs.testing.count_cells.Statement.{statement}
 use Rattle.counting.proofs.testing.count_cells.Tie as tie
 
 abbrev Inv-loop : tie.InvT-loop
-Inv-loop w b n c₀ r₀ c r =
-    (r ≤ n) × (c ≤ r) × (c ≡ breaking r b (λ l r. getD w (r * b + l) 0))
+Inv-loop w b n enough count₀ last₀ r₀ count last r =
+    (r ≤ n) × Found enough r b (λ l r. getD w (r * b + l) 0) (seen count last)
 
 abbrev μ-loop : tie.MeasureT-loop
-μ-loop w b n c₀ r₀ c r = n - r
+μ-loop w b n enough count₀ last₀ r₀ count last r = n - r
 
 mul-any : tie.Need-mul-any Inv-loop μ-loop
 mul-any c = search needs
@@ -41,14 +41,14 @@ returns c =
     let z = c .before .before .before .before in
     let a = z .args in
     let w = now (a .w) in
-    sym (zero-breaking (a .b) (λ l r. getD w (r * a .b + l) 0) (a .n) (λ i l h k.
+    found-clear (a .enough) (a .b) (λ l r. getD w (r * a .b + l) 0) (a .n) (λ i l h k.
     let x : i * a .b + l ≡ 0 + (i * a .b + l) = omega arith in
     let end = parts-end (a .b) h in
     ap (λ (y : ℕ). getD w y 0) x ∙ sym (part-at w 0 (a .n * a .b) (i * a .b + l) (omega (arith, end)))
-    ∙ c .before .any .ensures .none (c .if1 .taken) (i * a .b + l) (omega (arith, end, part-length w (a .n * a .b) (z .pre)))))
+    ∙ c .before .any .ensures .none (c .if1 .taken) (i * a .b + l) (omega (arith, end, part-length w (a .n * a .b) (z .pre))))
 
 loop-holds : tie.Need-loop-holds Inv-loop μ-loop
-loop-holds c = (search needs, search needs, sym (breaking-none _ _))
+loop-holds c = (search needs, found-begin _ _ _)
 
 mul-p : tie.Need-mul-p Inv-loop μ-loop
 mul-p c =
@@ -74,8 +74,19 @@ part-any-end-2 c =
 any-requires-2 : tie.Need-any-requires-2 Inv-loop μ-loop
 any-requires-2 c κs = search needs
 
-add-c : tie.Need-add-c Inv-loop μ-loop
-add-c c = search needs
+add-count : tie.Need-add-count Inv-loop μ-loop
+add-count c = search needs
+
+returns-2 : tie.Need-returns-2 Inv-loop μ-loop
+returns-2 c =
+    let z = c .before .before .before .before .before .before .before .before .before .before in
+    let a = z .args in
+    let y = c .before .before .before .before .before .loop in
+    let r = c .before .before .any2 in
+    let in-loop = c .before .before .before .before .loop-test .taken in
+    let f : ℕ → ℕ → ℕ = λ l r. getD (now (a .w)) (r * a .b + l) 0 in
+    let t = tells-part (now (a .w)) (r .result) (y .r * a .b) (a .b) (omega (arith, z .pre, parts-end (a .b) in-loop)) (r .ensures) in
+    found-enough (found-more (a .enough) (a .b) f (y .count) (y .last) (y .r) (y .inv .1) (r .result) t (c .before .if2 .taken)) (a .n) (c .if3 .taken) (omega (arith, in-loop))
 
 add-r : tie.Need-add-r Inv-loop μ-loop
 add-r c = search needs
@@ -92,15 +103,15 @@ loop-again c =
     let f : ℕ → ℕ → ℕ = λ l r. getD (now (a .w)) (r * a .b + l) 0 in
     let t = tells-part (now (a .w)) (r .result) (y .r * a .b) (a .b) (omega (arith, z .pre, parts-end (a .b) (c .before .before .before .loop-test .taken))) (r .ensures) in
     ⊎-elim
-    (λ w. (omega arith, omega arith, w .1 ∙ ap (λ (v : ℕ). v + 1) (y .inv .2) ∙ sym (breaking-more (a .b) f (r .result) (y .r) t (w .0 .taken))))
-    (λ w. (omega arith, omega arith, w .1 ∙ y .inv .2 ∙ sym (breaking-same (a .b) f (r .result) (y .r) t (w .0 .left)))) (c .if2 .came)
+    (λ w. (omega arith, found-as (w .2) (w .3) (found-more (a .enough) (a .b) f (y .count) (y .last) (y .r) (y .inv .1) (r .result) t (w .0 .taken))))
+    (λ w. (omega arith, found-as (w .1) (w .2) (found-same (a .enough) (a .b) f (y .count) (y .last) (y .r) (y .inv .1) (r .result) t (w .0 .left)))) (c .if2 .came)
 
-returns-2 : tie.Need-returns-2 Inv-loop μ-loop
-returns-2 c =
+returns-3 : tie.Need-returns-3 Inv-loop μ-loop
+returns-3 c =
     let y = c .before .loop in
     let a = c .before .before .before .before .before .before .args in
     let e : y .r ≡ a .n = omega arith in
-    y .inv .2 ∙ ap (λ (n : ℕ). breaking n (a .b) (λ l r. getD (now (a .w)) (r * a .b + l) 0)) e
+    subst (λ (n : ℕ). Found (a .enough) n (a .b) (λ l r. getD (now (a .w)) (r * a .b + l) 0) (seen (y .count) (y .last))) e (y .inv .1)
 
 pub count-cells-spec : {M : Type 1} → statement M
 count-cells-spec =
@@ -121,8 +132,9 @@ count-cells-spec =
     part-any-start-2
     part-any-end-2
     any-requires-2
-    add-c
+    add-count
+    returns-2
     add-r
     loop-less
     loop-again
-    returns-2)
+    returns-3)
