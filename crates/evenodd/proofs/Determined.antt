@@ -13,7 +13,7 @@ use Rattle.parity.specs.Presence.{differs, absences, Agrees, AgreesBut}
 use Rattle.parity.proofs.Columns.{same-column}
 use Rattle.parity.proofs.Stripes.{stripe-determined}
 use Rattle.parity.proofs.Theorems.{frame, served, at-most-one, absent-unread, one-wrong}
-use Rattle.inputs.specs.Rules.{tooManyAbsent, contradicted, contradictedBut, unmendable, noSuchColumn, stripeRules, lentRules, gapRules, restoreRules, showRules}
+use Rattle.inputs.specs.Rules.{tooManyAbsent, contradicted, unmendable, stripeRules, lentRules, gapRules, restoreRules, showRules}
 use Rattle.inputs.proofs.Rules.{passes-not, refuse-one, gives-one, passed-first, gives-passed, gives-instead}
 use Rattle.inputs.proofs.Stripe.{stripe-given}
 use Rattle.evenodd.specs.declared.checks.Checked.the-variants as checked
@@ -35,7 +35,7 @@ use Rattle.evenodd.specs.declared.rewrites.Rewritten.{Rewritten}
 use Rattle.evenodd.specs.declared.rewrites.Rewritten.the-variants as rewritten
 use Rattle.evenodd.specs.Restores.{Benched, RestoredFrom}
 use Rattle.evenodd.specs.Locates.{locateRules}
-use Rattle.evenodd.specs.Rewrites.{rewriteRules, Rewrites}
+use Rattle.evenodd.specs.Rewrites.{columnRules, rewriteRules, Rewrites}
 use Rattle.evenodd.specs.Mends.{Mends}
 use denote.Ref.{RefT, now}
 use Rattle.evenodd.specs.declared.shows.Place.{Place}
@@ -166,7 +166,7 @@ locates-one m k b s (located.Refused f) (located.Refused g) p q = ap located.Ref
 
 -- what the rules give of a stripe they give of another that agrees with it in every other column
 instead : (m k b column : ℕ) (s other : List ℕ) → AgreesBut m k b column s other → {v : Verdict}
-    → Gives (noSuchColumn k column ∷ contradictedBut m k b column s ∷ []) v → Gives (noSuchColumn k column ∷ contradictedBut m k b column other ∷ []) v
+    → Gives (columnRules m k b column s) v → Gives (columnRules m k b column other) v
 instead m k b column s other a (inl c) = inl c
 instead m k b column s other a (inr (n, inl c)) = inr (n, inl (λ v vv av. c .0 v vv (between m k b column other other s v (agrees-self m k b column other) (agrees-back m k b column s other a) av), c .1))
 instead m k b column s other a (inr (n, inr c)) = inr (n, inr (λ d. c .0 (λ v vv av. d v vv (between m k b column s s other v (agrees-self m k b column s) a av)), c .1))
@@ -176,7 +176,7 @@ unfolding RewritesUnread
 rewrites-unread m k b column s other x r p size a = go r p
   where
     told : {v : Verdict} → Gives (rewriteRules m k b column s) v → Gives (rewriteRules m k b column other) v
-    told {v} g = gives-instead (stripeRules m k b (length other)) (noSuchColumn k column ∷ contradictedBut m k b column s ∷ []) (noSuchColumn k column ∷ contradictedBut m k b column other ∷ []) v
+    told {v} g = gives-instead (stripeRules m k b (length other)) (columnRules m k b column s) (columnRules m k b column other) v
         (instead m k b column s other a) (rw (← size) at g)
 
     go : (r : Rewritten) → Rewrites m k b column s x r → Rewrites m k b column other (leftOf r x other) r
@@ -186,7 +186,7 @@ rewrites-unread m k b column s other x r p size a = go r p
 pub rewrites-one : RewritesOne
 unfolding RewritesOne
 rewrites-one m k b column s x y rewritten.Done rewritten.Done p q =
-    let h = stripe-given m k b (length s) (gives-passed (stripeRules m k b (length s)) (noSuchColumn k column ∷ contradictedBut m k b column s ∷ []) (p .told) .0) .0 in
+    let h = stripe-given m k b (length s) (gives-passed (stripeRules m k b (length s)) (columnRules m k b column s) (p .told) .0) .0 in
     (refl, one-but m k b column h x y (p .left .0) (q .left .0) (between m k b column s s x y (agrees-self m k b column s) (p .left .1) (q .left .1)))
 rewrites-one m k b column s x y rewritten.Done (rewritten.Refused g) p q = absurd (passes-not g (gives-one (rewriteRules m k b column s) _ _ (p .told) (q .told)))
 rewrites-one m k b column s x y (rewritten.Refused f) rewritten.Done p q = absurd (passes-not f (gives-one (rewriteRules m k b column s) _ _ (q .told) (p .told)))

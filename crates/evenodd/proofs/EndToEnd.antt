@@ -20,7 +20,7 @@ use Rattle.inputs.specs.declared.shapes.Refusal.{Refusal}
 use Rattle.inputs.specs.declared.shapes.Refusal.the-variants.{Ambiguous, Contradicted, Unmendable}
 use Rattle.inputs.specs.Refusals.{numberOf, pass, refuse, Gives}
 use Rattle.inputs.specs.Absent.{absentBelow}
-use Rattle.inputs.specs.Rules.{tooManyAbsent, contradicted, contradictedBut, unmendable, noSuchColumn, stripeRules, lentRules, gapRules, restoreRules}
+use Rattle.inputs.specs.Rules.{tooManyAbsent, contradicted, unmendable, stripeRules, lentRules, gapRules, restoreRules}
 use Rattle.inputs.proofs.Absent.{absences-below, below-under, nth-one, absent-nth}
 use Rattle.inputs.proofs.Rules.{passes-not, refuse-one, gives-one, gives-first, gives-next, gives-after, gives-rest}
 use Rattle.inputs.proofs.Shape.{places-most}
@@ -33,7 +33,7 @@ use Rattle.evenodd.specs.declared.restores.Restored.the-variants as rest
 use Rattle.evenodd.specs.declared.rewrites.Rewritten.{Rewritten}
 use Rattle.evenodd.specs.declared.rewrites.Rewritten.the-variants as rewritten
 use Rattle.evenodd.specs.Locates.{locateRules, OneDiffers, Locates}
-use Rattle.evenodd.specs.Rewrites.{rewriteRules, Rewrites}
+use Rattle.evenodd.specs.Rewrites.{columnRules, rewriteRules, Rewrites}
 use Rattle.evenodd.specs.Rewrites as rewrites
 use Rattle.evenodd.specs.Restores.{verdictOf, RestoredFrom}
 use Rattle.evenodd.specs.Shows.{half}
@@ -167,7 +167,7 @@ nothing-to-rewrite m k b column s after q p hu w =
     let (passed, none) = none-near m k b s (p .told) in
     let no : (v : List ℕ) → Valid m k b v → AgreesBut m k b column s v → ⊥ = λ v vv a. none v vv (few-pass (k + 2) column (differs m b s v) (a .at)) in
     refused-with q (gives-one (rewriteRules m k b column s) _ _ (w .told)
-    (gives-after (stripeRules m k b (length s)) (noSuchColumn k column ∷ contradictedBut m k b column s ∷ []) _ passed (gives-next (λ out. omega arith) (gives-first no))))
+    (gives-after (stripeRules m k b (length s)) (columnRules m k b column s) _ passed (gives-next (λ out. omega arith) (gives-first no))))
   where
     refused-with : (q : Rewritten) {f : Refusal} → rewrites.verdictOf q ≡ refuse f → q ≡ rewritten.Refused f
     refused-with rewritten.Done {f} e = absurd (passes-not f e)

@@ -4,12 +4,12 @@
 --   between           two stripes that agree with others, which agree, in every column but u, agree so
 --   one-but           two valid stripes that agree in every column but u are one
 --   rewrite-refused   what rewrite says where it is refused
---   rewrite-told      the tests of the numbers, the stripe's length and the column passed: what is asked then decides
+--   rewrite-told      the tests of the numbers and the stripe's length passed: what is asked of the column decides
 --   rewrite-outside   there is no such column
 --   rewrite-none      the other columns do not fit: no valid stripe agrees
 --   rewrite-done      they do, and the stripe has become the one that agrees
 use mathlib.Core.Path.{_≡_, refl, sym, _∙_}
-use mathlib.Core.List.{List, [], _∷_}
+use mathlib.Core.List.{List}
 use Prim.Native.Nat.{ℕ, _+_, _-_, _≤_, _<_}
 use native.Mathlib.Omega.{arith}
 use lib.ListN.{length}
@@ -25,11 +25,11 @@ use Rattle.restoring.specs.Restoring.{SameBut}
 use Rattle.inputs.specs.declared.shapes.Refusal.{Refusal}
 use Rattle.inputs.specs.declared.shapes.Refusal.the-variants.{NoSuchColumn, Contradicted}
 use Rattle.inputs.specs.Refusals.{Verdict, refuse, Gives}
-use Rattle.inputs.specs.Rules.{noSuchColumn, contradictedBut, stripeRules}
+use Rattle.inputs.specs.Rules.{stripeRules}
 use Rattle.inputs.proofs.Rules.{gives-first, gives-next, gives-after}
 use Rattle.inputs.proofs.Stripe.{stripe-passed}
 use Rattle.evenodd.specs.declared.rewrites.Rewritten.the-variants.{Done, Refused}
-use Rattle.evenodd.specs.Rewrites.{rewriteRules, Rewrites}
+use Rattle.evenodd.specs.Rewrites.{columnRules, rewriteRules, Rewrites}
 
 module _ (m k b u : ℕ) where
   same-but : (s v : List ℕ) → AgreesBut m k b u s v → SameBut m k b u s v
@@ -54,8 +54,8 @@ module _ (m k b u : ℕ) where
   pub rewrite-refused : {s : List ℕ} {f : Refusal} → Gives (rewriteRules m k b u s) (refuse f) → Rewrites m k b u s s (Refused f)
   rewrite-refused told = record { told = told; left = refl }
 
-  pub rewrite-told : Shape m k b → (s : List ℕ) → length s ≡ stripeLength m k b → {v : Verdict} → Gives (noSuchColumn k u ∷ contradictedBut m k b u s ∷ []) v → Gives (rewriteRules m k b u s) v
-  rewrite-told h s whole g = gives-after (stripeRules m k b (length s)) (noSuchColumn k u ∷ contradictedBut m k b u s ∷ []) _ (stripe-passed m k b (length s) h whole) g
+  pub rewrite-told : Shape m k b → (s : List ℕ) → length s ≡ stripeLength m k b → {v : Verdict} → Gives (columnRules m k b u s) v → Gives (rewriteRules m k b u s) v
+  rewrite-told h s whole g = gives-after (stripeRules m k b (length s)) (columnRules m k b u s) _ (stripe-passed m k b (length s) h whole) g
 
   module _ (h : Shape m k b) (s : List ℕ) (st : Stripe m k b s) where
     pub rewrite-outside : k + 2 ≤ u → Rewrites m k b u s s (Refused NoSuchColumn)

@@ -1,4 +1,5 @@
 -- What rewrite answers and leaves. It is told a column.
+--   columnRules    7, 5: what is asked of the column
 --   rewriteRules   1, 12, 13, 2, 7, 5
 --   verdictOf      the verdict of an answer
 --   Left           what is left: done, a valid stripe that has every other column as it was; refused, nothing changed
@@ -14,8 +15,11 @@ use Rattle.evenodd.specs.declared.rewrites.Rewritten.the-variants.{Done,
 use Rattle.inputs.specs.Refusals.{Verdict, pass, refuse, Rule, Gives}
 use Rattle.inputs.specs.Rules.{noSuchColumn, contradictedBut, stripeRules}
 
+abbrev pub columnRules : ℕ → ℕ → ℕ → ℕ → List ℕ → List Rule
+columnRules m k b column s = noSuchColumn k column ∷ contradictedBut m k b column s ∷ []
+
 abbrev pub rewriteRules : ℕ → ℕ → ℕ → ℕ → List ℕ → List Rule
-rewriteRules m k b column s = stripeRules m k b (length s) ++ (noSuchColumn k column ∷ contradictedBut m k b column s ∷ [])
+rewriteRules m k b column s = stripeRules m k b (length s) ++ columnRules m k b column s
 
 abbrev pub verdictOf : Rewritten → Verdict
 verdictOf Done = pass

@@ -1,15 +1,15 @@
 -- `evenodd::rewrites::rewrite` meets its contract: a law of rewrite for each way out, from what the tests on the way there said.
 use mathlib.Core.Path.{sym, _∙_}
 use mathlib.Core.Bool.{true≢false}
-use mathlib.Core.List.{[], _∷_}
 use lib.ListN.{length}
 use native.Mathlib.Omega.{arith}
 use denote.Ref.{now}
 use borrow.Author.Needs.{needs}
 use borrow.Author.Tests.{not-true, not-false}
 use Rattle.parity.specs.Stripe.{Stripe}
-use Rattle.inputs.specs.Rules.{noSuchColumn, contradictedBut, stripeRules}
+use Rattle.inputs.specs.Rules.{stripeRules}
 use Rattle.inputs.proofs.Tests.{told-refused, Numbers, stripe-good}
+use Rattle.evenodd.specs.Rewrites.{columnRules}
 use Rattle.evenodd.proofs.Laid.{laid}
 use Rattle.evenodd.proofs.Rewritten.{rewrite-refused, rewrite-outside, rewrite-none, rewrite-done}
 use Rattle.evenodd.proofs.rewrites.rewrite.Statement.{statement}
@@ -39,7 +39,7 @@ returns : tie.Need-returns
 returns c =
     let at = c .before .before .before in
     let a = at .before .before .args in
-    rewrite-refused (a .m) (a .k) (a .b) (a .column) (told-refused (stripeRules (a .m) (a .k) (a .b) (length (now (a .stripe)))) (noSuchColumn (a .k) (a .column) ∷ contradictedBut (a .m) (a .k) (a .b) (a .column) (now (a .stripe)) ∷ [])
+    rewrite-refused (a .m) (a .k) (a .b) (a .column) (told-refused (stripeRules (a .m) (a .k) (a .b) (length (now (a .stripe)))) (columnRules (a .m) (a .k) (a .b) (a .column) (now (a .stripe)))
     (at .judge-stripe .result) (at .judge-stripe .ensures .told) (c .before .enum-told .given .1) (c .refusal .ensures))
 
 add-if1 : tie.Need-add-if1
