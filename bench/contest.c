@@ -23,9 +23,9 @@ enum { PQ_TO_REACH = FIRST + PQ_SSE }; /* P+Q with the instructions that the lib
 enum { PQ_TO_REACH = FIRST + PQ };
 #endif
 static struct rival rivals[RIVALS] = {
-    [MEMCPY] = {"memcpy", PACKED, {copy, copy, copy, copy, copy, copy, copy}},
+    [MEMCPY] = {"memcpy", PACKED, {copy, copy, copy, copy, copy, copy, copy, copy, copy}},
     [OWN] = {"own-encode", PACKED, {0}}, /* main gives it the library's encode beside every other operation */
-    [OWN_CHECK] = {"own-check", PACKED, {0}}, /* and this the library's check beside INTACT */
+    [OWN_CHECK] = {"own-check", PACKED, {0}}, /* and this the library's check beside INTACT, BLANK and BLANK_LOCATE */
 };
 
 /* The ratio that an operation is to reach, hot; 0 where there is none. */
@@ -36,7 +36,8 @@ static double goal(const struct shape *p, enum op op, int rival) {
     if (op == ENCODE && rival == PQ_TO_REACH) return wide ? 1.0 : 0;
     if (op == TWO && rival == FIRST + EVENODD) return 2.0;
     if (op == INTACT && rival == OWN_CHECK) return wide ? 0.97 : 0; /* 1, but for noise */
-    if (op == INTACT || rival != OWN) return 0;
+    if ((op == BLANK || op == BLANK_LOCATE) && rival == OWN_CHECK) return wide ? 1 / 1.3 : 0;
+    if (op == INTACT || op == BLANK || op == BLANK_LOCATE || rival != OWN) return 0;
     return op == CHECK ? (wide ? 0.8 : 0) : op == ONE ? 0.45 : op == TWO ? (wide && p->k >= 10 ? 0.8 : 0.5) : wide ? 0.45 : 0;
 }
 
@@ -67,7 +68,7 @@ static double now(void) {
 /* Calls a contestant n times, each on the next slot of its pool, and gives the time of one call. */
 static double calls(const struct shape *p, int r, enum op op, int cold, size_t n) {
     static size_t next[POOLS];
-    enum pool pool = op == LOCATE && r == OURS ? WRONG : rivals[r].pool;
+    enum pool pool = r != OURS ? rivals[r].pool : op == LOCATE ? WRONG : op == BLANK || op == BLANK_LOCATE ? ZEROS : rivals[r].pool;
     size_t size = slot_size(p, pool), slots = cold ? POOL / size : 1;
     double start = now();
     for (size_t i = 0; i < n; i++) rivals[r].run[op](p, pools[pool] + ++next[pool] % slots * size);
@@ -113,9 +114,10 @@ int main(int argc, char **argv) {
         uint64_t x = draw();
         memcpy(pools[PACKED] + j, &x, 8), memcpy(pools[PADDED] + j, &x, 8), memcpy(copies + j, &x, 8);
     }
+    memset(pools[ZEROS], 0, POOL);
     memcpy(rivals, owns, sizeof owns);
     for (int op = CHECK; op < OPS; op++) rivals[OWN].run[op] = owns[OURS].run[ENCODE];
-    rivals[OWN_CHECK].run[INTACT] = owns[OURS].run[CHECK];
+    rivals[OWN_CHECK].run[INTACT] = rivals[OWN_CHECK].run[BLANK] = rivals[OWN_CHECK].run[BLANK_LOCATE] = owns[OURS].run[CHECK];
     for (int s = 0; s < SHAPES; s++) {
         if (!asked(argc, argv, s)) continue;
         struct shape p = shape_of(shapes[s]);

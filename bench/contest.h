@@ -11,16 +11,17 @@ void plain_restore(size_t m, size_t k, size_t b, size_t u, size_t v, const uint8
 void registers_encode(size_t m, size_t k, size_t b, uint8_t *stripe);
 void registers_check(size_t m, size_t k, size_t b, const uint8_t *stripe, size_t *rows, size_t *diagonals);
 
-enum op { ENCODE, CHECK, ONE, TWO, INTACT, LOCATE, REWRITE, OPS };
+enum op { ENCODE, CHECK, ONE, TWO, INTACT, LOCATE, REWRITE, BLANK, BLANK_LOCATE, OPS };
 
 /* A shape with what follows from it. Columns lie `col` bytes apart in pool PACKED, as the library wants them, and `pitch` bytes apart
    in pool PADDED, a multiple of 64, as ISA-L wants them. A slot of either is k+2 columns of a stripe and two of a bench. Pool WRONG is
-   PACKED with column w of each stripe wrong, for the library's LOCATE. */
+   PACKED with column w of each stripe wrong, for the library's LOCATE. Pool ZEROS has blank stripes, for its BLANK, which is check, and
+   BLANK_LOCATE, which is locate. */
 struct shape {
     size_t m, k, b, col, pitch;
     size_t u, v, w; /* columns lost: u and v of TWO, w of ONE; w is the wrong one of LOCATE, and the one of REWRITE */
 };
-enum pool { PACKED, PADDED, WRONG, POOLS };
+enum pool { PACKED, PADDED, WRONG, ZEROS, POOLS };
 
 typedef void work(const struct shape *, uint8_t *slot);
 struct rival {
@@ -39,7 +40,7 @@ extern const char *const op_name[OPS];
 struct shape shape_of(const size_t *s);
 enum { OURS, PLAIN, REGISTERS, OWNS };
 extern struct rival owns[OWNS];
-extern uint8_t refused; /* not 0 once the library has refused a call, or located what is not so */
+extern uint8_t refused; /* not 0 once the library has refused a call, or found what is not so */
 work spoil;
 const char *own_check(const struct shape *, uint8_t *slot, uint8_t *good);
 

@@ -44,6 +44,7 @@ int main(int argc, char **argv) {
     if (!run) return 2;
     plain_encode(p.m, p.k, p.b, slot);
     if (!strcmp(argv[2], op_name[LOCATE])) spoil(&p, slot);
+    if (!strcmp(argv[2], op_name[BLANK]) || !strcmp(argv[2], op_name[BLANK_LOCATE])) memset(slot, 0, (p.k + 2) * p.col);
     for (int n = atoi(argv[4]); n > 0; n--) run(&p, slot);
     return refused != 0;
 }

@@ -7,15 +7,16 @@ const size_t shapes[SHAPES][3] = {
     {11, 10, 4096}, {17, 17, 4096}, {5, 5, 512},  {11, 10, 1000}, {7, 5, 100},   {13, 12, 64},  {11, 10, 16},    {61, 60, 4096},
     {127, 127, 512}, {11, 10, 1},   {5, 5, 4096}, {11, 10, 512},  {17, 17, 512}, {61, 60, 512}, {127, 127, 4096},
 };
-const char *const op_name[OPS] = {"encode", "check", "restore1", "restore2", "intact", "locate", "rewrite"};
+const char *const op_name[OPS] = {"encode", "check", "restore1", "restore2", "intact", "locate", "rewrite", "blank", "blank-loc"};
 
 uint8_t refused;
 static uint8_t one_lost[129], two_lost[129];
 static size_t got[3];
 static size_t length(const struct shape *p) { return (p->k + 2) * p->col; }
 static void our_encode(const struct shape *p, uint8_t *slot) { refused |= oarwillow_encode(p->m, p->k, p->b, slot, length(p)); }
+static uint8_t found;
 static void our_check(const struct shape *p, uint8_t *slot) {
-    refused |= oarwillow_check(p->m, p->k, p->b, slot, length(p), &got[0], &got[1]);
+    refused |= oarwillow_check(p->m, p->k, p->b, slot, length(p), &got[0], &got[1], &found);
 }
 static void our_restore(const struct shape *p, uint8_t *slot, const uint8_t *places) {
     refused |= oarwillow_restore(p->m, p->k, p->b, places, slot, length(p), slot + length(p), 2 * p->col, &got[0], &got[1], &got[2]);
@@ -28,12 +29,13 @@ void spoil(const struct shape *p, uint8_t *slot) {
 }
 /* Another answer than the stripe's counts as a refusal, for what is measured would be something else. */
 static void our_find(const struct shape *p, uint8_t *slot, uint8_t what, size_t column) {
-    uint8_t found;
     refused |= oarwillow_locate(p->m, p->k, p->b, slot, length(p), &found, &got[0]);
     refused |= found != what || got[0] != column;
 }
 static void our_intact(const struct shape *p, uint8_t *slot) { our_find(p, slot, OARWILLOW_FOUND_INTACT, 129); }
 static void our_locate(const struct shape *p, uint8_t *slot) { our_find(p, slot, OARWILLOW_FOUND_COLUMN, p->w); }
+static void our_blank(const struct shape *p, uint8_t *slot) { our_check(p, slot), refused |= found != OARWILLOW_FOUND_BLANK; }
+static void our_blank_locate(const struct shape *p, uint8_t *slot) { our_find(p, slot, OARWILLOW_FOUND_BLANK, 129); }
 static void our_rewrite(const struct shape *p, uint8_t *slot) { refused |= oarwillow_rewrite(p->m, p->k, p->b, slot, length(p), p->w); }
 static void c_encode(const struct shape *p, uint8_t *slot) { plain_encode(p->m, p->k, p->b, slot); }
 static void c_check(const struct shape *p, uint8_t *slot) { plain_check(p->m, p->k, p->b, slot, &got[0], &got[1]); }
@@ -42,7 +44,7 @@ static void r_encode(const struct shape *p, uint8_t *slot) { registers_encode(p-
 static void r_check(const struct shape *p, uint8_t *slot) { registers_check(p->m, p->k, p->b, slot, &got[0], &got[1]); }
 
 struct rival owns[OWNS] = {
-    [OURS] = {"ours", PACKED, {our_encode, our_check, our_one, our_two, our_intact, our_locate, our_rewrite}},
+    [OURS] = {"ours", PACKED, {our_encode, our_check, our_one, our_two, our_intact, our_locate, our_rewrite, our_blank, our_blank_locate}},
     [PLAIN] = {"plain", PACKED, {c_encode, c_check, 0, c_two}},
     [REGISTERS] = {"registers", PACKED, {r_encode, r_check}},
 };
@@ -110,6 +112,11 @@ const char *own_check(const struct shape *p, uint8_t *slot, uint8_t *good) {
             memset(slot + p->w * p->col, 0x55, p->col);
             run[REWRITE](p, slot);
             if (memcmp(slot, good, n)) return "rewrite";
+        }
+        if (run[BLANK]) {
+            memset(slot, 0, n);
+            run[BLANK](p, slot), run[BLANK_LOCATE](p, slot);
+            memcpy(slot, good, n);
         }
         if (refused) return "an answer";
     }

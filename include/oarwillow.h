@@ -27,7 +27,7 @@
 #include <stddef.h>
 #include <stdint.h>
 
-#define OARWILLOW_VERSION "0.6.0"
+#define OARWILLOW_VERSION "0.7.0"
 
 /* Why a call is refused. Other numbers are never given. */
 enum oarwillow_refusal {
@@ -77,29 +77,33 @@ extern "C" {
 /* Writes H and D from the data columns, which stay. Refusals: 1, 12, 13, 2. */
 uint8_t oarwillow_encode(size_t m, size_t k, size_t b, uint8_t *stripe, size_t stripe_len);
 
+/* What oarwillow_check and oarwillow_locate found. */
+enum oarwillow_found {
+    OARWILLOW_FOUND_REFUSED = 0, /* nothing: the call was refused */
+    OARWILLOW_FOUND_INTACT = 1,  /* the stripe is valid, and some byte is not zero */
+    OARWILLOW_FOUND_BLANK = 2,   /* every byte is zero: perhaps no job ever wrote it. It obeys every parity rule */
+    OARWILLOW_FOUND_BROKEN = 3,  /* oarwillow_check alone: the stripe is not valid */
+    OARWILLOW_FOUND_COLUMN = 4   /* oarwillow_locate alone: one column is wrong */
+};
+
 /* Counts the rows whose H equation breaks and the numbers whose D equation breaks; a cell counts once. Writes no byte of the stripe.
- * Both counts are 0 exactly for an intact stripe, and on a refusal. Refusals: 1, 12, 13, 2. */
-uint8_t oarwillow_check(size_t m, size_t k, size_t b, const uint8_t *stripe, size_t stripe_len, size_t *rows, size_t *diagonals);
+ * `found` is one of `enum oarwillow_found`: OARWILLOW_FOUND_INTACT exactly when both counts are 0 and some byte is not zero;
+ * OARWILLOW_FOUND_BLANK exactly when every byte is zero; OARWILLOW_FOUND_BROKEN exactly when some count is not 0. Both counts are 0 for
+ * intact and for blank, and on a refusal, with OARWILLOW_FOUND_REFUSED: `found` tells them apart. Refusals: 1, 12, 13, 2. */
+uint8_t oarwillow_check(size_t m, size_t k, size_t b, const uint8_t *stripe, size_t stripe_len, size_t *rows, size_t *diagonals,
+                        uint8_t *found);
 
 /* Restores the columns that are absent to the bench: the lowest to the first half, the other to the second; a half that is not needed
  * stays. Gives how many were restored and their numbers, 129 standing for none. What stands in an absent column's place never alters
- * the answer. On a refusal: 0, 129, 129. Refusals: 1, 12, 13, 2, 3, 9, 4, 5. */
+ * the answer. A blank stripe is valid, and is restored as any other. On a refusal: 0, 129, 129. Refusals: 1, 12, 13, 2, 3, 9, 4, 5. */
 uint8_t oarwillow_restore(size_t m, size_t k, size_t b, const uint8_t places[129], const uint8_t *stripe, size_t stripe_len,
                           uint8_t *bench, size_t bench_len, size_t *count, size_t *first, size_t *second);
 
-/* What oarwillow_locate found. */
-enum oarwillow_found {
-    OARWILLOW_FOUND_REFUSED = 0, /* nothing: the call was refused */
-    OARWILLOW_FOUND_INTACT = 1,  /* the stripe is valid */
-    OARWILLOW_FOUND_BLANK = 2,   /* not given yet: a stripe of zeros is intact */
-    OARWILLOW_FOUND_BROKEN = 3,  /* not given yet, and never by oarwillow_locate */
-    OARWILLOW_FOUND_COLUMN = 4   /* one column is wrong */
-};
-
 /* Says which column is wrong, of a stripe with every column present; writes no byte of the stripe. `found` is one of `enum
- * oarwillow_found`: OARWILLOW_FOUND_INTACT exactly when the stripe is valid, with column 129; OARWILLOW_FOUND_COLUMN exactly when some
- * valid stripe differs from it in exactly one column, and `column` is its number. On a refusal: OARWILLOW_FOUND_REFUSED and 129. Two wrong
- * columns can look like one other: look before you rewrite. Refusals: 1, 12, 13, 2, 6. */
+ * oarwillow_found`: OARWILLOW_FOUND_INTACT exactly when the stripe is valid and not blank, OARWILLOW_FOUND_BLANK exactly when every byte
+ * is zero, both with column 129; OARWILLOW_FOUND_COLUMN exactly when some valid stripe differs from it in exactly one column, and
+ * `column` is its number. On a refusal: OARWILLOW_FOUND_REFUSED and 129. Two wrong columns can look like one other: look before you
+ * rewrite. Refusals: 1, 12, 13, 2, 6. */
 uint8_t oarwillow_locate(size_t m, size_t k, size_t b, const uint8_t *stripe, size_t stripe_len, uint8_t *found, size_t *column);
 
 /* Puts into the column that is named the one content that makes the stripe valid. It follows from the other columns, which stay; what

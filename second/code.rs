@@ -21,9 +21,13 @@ pub const WRONG_K: u8 = 12;
 pub const WRONG_B: u8 = 13;
 pub const LYING_MAP: u8 = 17;
 
-// What a locate found.
+// What a check or a locate found.
 pub const FOUND_NOTHING: u8 = 0;
 pub const FOUND_INTACT: u8 = 1;
+pub const FOUND_BLANK: u8 = 2;
+/// Of a check only.
+pub const FOUND_BROKEN: u8 = 3;
+/// Of a locate only.
 pub const FOUND_COLUMN: u8 = 4;
 
 /// Three shape numbers as handed in. The methods other than `judge` are for numbers that were accepted.
@@ -170,6 +174,9 @@ fn add_bytes(to: &mut [u8], from: &[u8]) { to.iter_mut().zip(from).for_each(|(x,
 
 fn is_zero(bytes: &[u8]) -> bool { bytes.iter().all(|&x| x == 0) }
 
+/// A stripe is blank when every byte of it is zero.
+pub fn is_blank(stripe: &[u8]) -> bool { is_zero(stripe) }
+
 /// The 2(m-1) equations over the (k+2)(m-1) cells: the cells with a one sum to zero.
 pub fn equations(shape: Shape) -> Vec<Bits> {
     let Shape { m, k, .. } = shape;
@@ -273,7 +280,7 @@ pub fn encode(shape: Shape, stripe: &mut [u8]) -> Encoded {
     Encoded { number: FINE }
 }
 
-pub struct Checked { pub number: u8, pub rows: usize, pub diagonals: usize }
+pub struct Checked { pub number: u8, pub rows: usize, pub diagonals: usize, pub found: u8 }
 
 /// The paper's a(i,t), zero where it is zero by rule.
 fn data_cell(shape: Shape, stripe: &[u8], row: usize, t: usize) -> Vec<u8> {
@@ -292,11 +299,12 @@ pub fn main_sum(shape: Shape, stripe: &[u8]) -> Vec<u8> {
     sum(shape, (1..m).map(|t| data_cell(shape, stripe, m - 1 - t, t)))
 }
 
-/// Counts broken equations as they are written down, without the bit matrix.
+/// Counts broken equations as they are written down, without the bit matrix. Intact is a stripe with both counts zero and
+/// some byte that is not.
 pub fn check(shape: Shape, stripe: &[u8]) -> Checked {
     let number = judge_plain(shape, stripe);
     if number != FINE {
-        return Checked { number, rows: 0, diagonals: 0 };
+        return Checked { number, rows: 0, diagonals: 0, found: FOUND_NOTHING };
     }
     let Shape { m, k, .. } = shape;
     let s = main_sum(shape, stripe);
@@ -310,7 +318,12 @@ pub fn check(shape: Shape, stripe: &[u8]) -> Checked {
         right != shape.cell(stripe, *i, k + 1)
     };
     let (rows, diagonals) = ((0..m - 1).filter(row_breaks).count(), (0..m - 1).filter(diagonal_breaks).count());
-    Checked { number, rows, diagonals }
+    let found = match (rows, diagonals) {
+        _ if is_blank(stripe) => FOUND_BLANK,
+        (0, 0) => FOUND_INTACT,
+        _ => FOUND_BROKEN,
+    };
+    Checked { number, rows, diagonals, found }
 }
 
 pub struct Restored { pub number: u8, pub count: usize, pub first: usize, pub second: usize }
@@ -339,6 +352,9 @@ pub fn locate(shape: Shape, stripe: &[u8]) -> Located {
     let refused = |number| Located { number, found: FOUND_NOTHING, column: NO_COLUMN };
     let number = judge_plain(shape, stripe);
     if number != FINE { return refused(number); }
+    if is_blank(stripe) {
+        return Located { number, found: FOUND_BLANK, column: NO_COLUMN };
+    }
     let equations = equations(shape);
     let fits = |absent: &[usize]| matches!(solve(shape, &equations, absent, stripe), Solution::One(_));
     if fits(&[]) {

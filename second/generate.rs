@@ -4,6 +4,7 @@
 use crate::code::*;
 use crate::image::INPUT_LIMIT;
 use crate::requests::Request;
+use std::ops::RangeInclusive;
 
 pub struct Case { pub request: Request, pub expected: Option<u8> }
 
@@ -41,6 +42,8 @@ const LARGE: [(usize, usize, usize); 3] = [(11, 9, 130), (17, 2, 4096), (19, 17,
 const LARGE_REWRITES: [(usize, usize, usize); 4] = [(11, 9, 130), (19, 17, 257), (127, 3, 100), (17, 3, 4096)];
 /// So many columns, and such cells, that the library sums lines in bands, more than one.
 const WIDE: (usize, usize, usize) = (37, 33, 1400);
+/// Where stripes are zero or nearly so: as many columns as there can be, and long cells, up to data of more than 256 KiB.
+const FAINT: [(usize, usize, usize); 4] = [(127, 127, 1), (5, 5, 4096), (17, 16, 512), (17, 17, 1024)];
 pub const BAD_M: [usize; 36] = [
     0, 1, 2, 4, 6, 8, 9, 15, 21, 25, 27, 33, 35, 49, 51, 57, 77, 87, 91, 93, 119, 121, 123, 125, 126, 128, 129, 131,
     137, 256, 257, 259, 65_539, (1 << 32) + 3, MAX - 1, MAX,
@@ -87,9 +90,50 @@ fn alone_and_together(order: &[u8]) -> Vec<Vec<u8>> {
     order.iter().map(|&number| vec![number]).chain(together(order)).collect()
 }
 
+/// Kinds of shapes at which blank stripes are made.
+pub const EXTENTS: [&str; 3] = ["small", "long cells", "many columns"];
+
+pub fn extent(shape: Shape) -> &'static str {
+    match shape {
+        Shape { b, .. } if b >= 128 => EXTENTS[1],
+        Shape { k, .. } if k > 8 => EXTENTS[2],
+        _ => EXTENTS[0],
+    }
+}
+
+/// What of a stripe is not zero.
 #[derive(Clone, Copy, PartialEq)]
 #[rustfmt::skip]
-enum Damage { None, OneColumn, TwoColumns, Lanes, Imaginary, Garbage, H, D }
+enum Faint {
+    Nothing,
+    // One byte: the first or the last of the stripe, any, or one of H or D. Two bytes of a column, which add up to zero.
+    First, Last, Any, H, D, Pair,
+    // Of the data the last byte, the last column, one lane, the last byte of each cell, or one cell; H and D fit to it.
+    LastByte, LastColumn, Lane, LastLane, Cell,
+    // One byte of the data, on the diagonal of S, and H and D that fit: all bytes add up to zero.
+    Diagonal,
+    // Data for which H and D are zero.
+    NoParity,
+}
+
+/// What comes in the place of a valid stripe, or is done to it.
+#[derive(Clone, Copy, PartialEq)]
+#[rustfmt::skip]
+enum Damage { None, OneColumn, TwoColumns, Lanes, Imaginary, Garbage, H, D, Faint(Faint) }
+
+impl Damage {
+    fn can_be_at(self, shape: Shape) -> bool {
+        match self {
+            Damage::Lanes | Damage::Faint(Faint::Lane | Faint::LastLane) => shape.b > 1,
+            Damage::Imaginary => shape.k < shape.m,
+            Damage::Faint(Faint::LastColumn | Faint::Diagonal) => shape.k > 1,
+            Damage::Faint(Faint::NoParity) => shape.k > 2,
+            _ => true,
+        }
+    }
+}
+
+const BLANK: Damage = Damage::Faint(Faint::Nothing);
 
 #[derive(Clone, Copy, PartialEq)]
 #[rustfmt::skip]
@@ -120,7 +164,9 @@ fn wrong_numbers(flaws: &[Flaw]) -> Vec<u8> {
 }
 
 /// The kinds of images for `shelf`.
-pub const IMAGE_KINDS: usize = 91;
+pub const IMAGE_KINDS: usize = 120;
+/// Those that are all zero, with at most two columns absent.
+pub const BLANK_KINDS: RangeInclusive<usize> = 91..=101;
 
 enum Recipe {
     /// Encode, check or locate.
@@ -131,6 +177,8 @@ enum Recipe {
     Show(Vec<u8>, &'static str),
     /// With cells of this size, which few of the drawn shapes have, a locate or a rewrite of one wrong column.
     LongCells(usize, bool),
+    /// A check or a locate of a stripe that is all zero, at a shape of this kind.
+    Blank(fn(Shape, Vec<u8>) -> Request, &'static str),
     Mark(bool),
     Gaps,
     Lengths,
@@ -182,11 +230,26 @@ fn code_recipes() -> Vec<Recipe> {
     list
 }
 
+/// About 6 of 100 requests.
+fn faint_recipes() -> Vec<Recipe> {
+    use Faint::*;
+    let mut list = Vec::new();
+    for operation in [Request::Check as fn(Shape, Vec<u8>) -> Request, Request::Locate] {
+        list.extend(EXTENTS.map(|kind| Recipe::Blank(operation, kind)));
+        list.extend(PLAIN_ORDER.map(|number| Recipe::Plain(operation, vec![number], BLANK)));
+        let faint = [First, Last, Any, H, D, Pair, LastByte, LastColumn, Lane, LastLane, Cell, Diagonal, NoParity];
+        list.extend(faint.map(|faint| Recipe::Plain(operation, vec![], Damage::Faint(faint))));
+    }
+    list.extend(["none", "any", "any"].map(|pattern| Recipe::Restore(vec![], pattern, BLANK)));
+    list.extend(["none", "any", "any"].map(|pattern| Recipe::Rewrite(vec![], pattern, BLANK)));
+    list
+}
+
 /// About 4 of 100 requests.
-fn gap_recipes() -> Vec<Recipe> { (0..26).map(|_| Recipe::Gaps).collect() }
+fn gap_recipes() -> Vec<Recipe> { (0..28).map(|_| Recipe::Gaps).collect() }
 
 /// About 6 of 100 requests.
-fn length_recipes() -> Vec<Recipe> { (0..40).map(|_| Recipe::Lengths).collect() }
+fn length_recipes() -> Vec<Recipe> { (0..44).map(|_| Recipe::Lengths).collect() }
 
 fn image_recipes() -> Vec<Recipe> {
     let mut list = vec![Recipe::Contents(vec![], "far"), Recipe::Read(vec![], "any", false)];
@@ -204,6 +267,10 @@ fn image_recipes() -> Vec<Recipe> {
         list.push(Recipe::Read(flaws, "any", true));
     }
     list
+}
+
+fn check_and_locate(shape: Shape, stripe: Vec<u8>) -> [Request; 2] {
+    [Request::Check(shape, stripe.clone()), Request::Locate(shape, stripe)]
 }
 
 pub struct Maker {
@@ -225,14 +292,16 @@ impl Maker {
     }
 
     pub fn cases(mut self, count: usize) -> impl Iterator<Item = Case> {
-        let recipes = [code_recipes(), gap_recipes(), length_recipes(), code_recipes(), image_recipes()];
+        let recipes =
+            [code_recipes(), gap_recipes(), length_recipes(), code_recipes(), faint_recipes(), image_recipes()];
         let recipes: Vec<Recipe> = recipes.into_iter().flatten().collect();
         (0..count).map(move |n| self.make(&recipes[n % recipes.len()]))
     }
 
     /// At each of several small shapes, of a valid stripe and with each column wrong: a check, a locate, a rewrite of
-    /// every column, and every set of at most two absent columns. Then a few requests at large shapes, the gaps
-    /// of a few maps for every k from 0 to 130, and lengths for every m from 0 to 140.
+    /// every column, and every set of at most two absent columns; and checks and locates of the stripe that is all zero, and
+    /// of it with one byte set. Then a few requests at large shapes, the gaps of a few maps for every k from 0 to 130, and
+    /// lengths for every m from 0 to 140.
     pub fn every_pattern(mut self) -> Vec<Request> {
         let mut requests = Vec::new();
         for (m, k, b) in SMALL {
@@ -258,6 +327,7 @@ impl Maker {
                     }
                 }
             }
+            requests.extend(self.one_byte(shape));
         }
         for (m, k, b) in LARGE {
             requests.extend(self.large(Shape { m, k, b }));
@@ -267,12 +337,32 @@ impl Maker {
         }
         let (m, k, b) = WIDE;
         requests.extend(self.wide(Shape { m, k, b }));
+        for (m, k, b) in FAINT {
+            let shape = Shape { m, k, b };
+            for faint in [Faint::Nothing, Faint::First, Faint::Last, Faint::LastByte] {
+                requests.extend(check_and_locate(shape, self.faint(shape, faint)));
+            }
+        }
         for k in 0..=130 {
             requests.extend(EVERY_GAP_MAPS.map(|kind| Request::Gaps(k, self.gap_map(kind, k))));
         }
         for m in 0..=140 {
             for k in [0, 1, m, m + 1] {
                 requests.extend(EVERY_LENGTH_B.map(|b| Request::Lengths(Shape { m, k, b })));
+            }
+        }
+        requests
+    }
+
+    /// The stripe that is all zero, and it with the first or the last byte of a column set: a check and a locate of each.
+    fn one_byte(&mut self, shape: Shape) -> Vec<Request> {
+        let zero = self.faint(shape, Faint::Nothing);
+        let mut requests = Vec::from(check_and_locate(shape, zero.clone()));
+        for column in 0..shape.columns() {
+            for place in [shape.column(column).start, shape.column(column).end - 1] {
+                let mut stripe = zero.clone();
+                stripe[place] = self.random.nonzero();
+                requests.extend(check_and_locate(shape, stripe));
             }
         }
         requests
@@ -440,6 +530,59 @@ impl Maker {
         stripe
     }
 
+    /// A stripe that is zero but for what is named.
+    fn faint(&mut self, shape: Shape, faint: Faint) -> Vec<u8> {
+        let Shape { m, k, b } = shape;
+        let mut stripe = vec![0; shape.stripe_length()];
+        let (data, length) = (k * shape.column_length(), stripe.len());
+        let (cell, lane) = (b * self.random.below(k * (m - 1)), self.random.below(b));
+        let within = self.random.below(shape.column_length());
+        let (places, valid): (Vec<usize>, bool) = match faint {
+            Faint::Nothing => (vec![], true),
+            Faint::First => (vec![0], false),
+            Faint::Last => (vec![length - 1], false),
+            Faint::Any => (vec![self.random.below(length)], false),
+            Faint::H => (vec![shape.column(k).start + within], false),
+            Faint::D => (vec![shape.column(k + 1).start + within], false),
+            Faint::Pair => {
+                let column = shape.column(self.random.below(k + 2)).start;
+                (self.random.two(shape.column_length()).map(|place| column + place).to_vec(), false)
+            }
+            Faint::LastByte => (vec![data - 1], true),
+            Faint::LastColumn => (shape.column(k - 1).collect(), true),
+            Faint::Lane => ((lane..data).step_by(b).collect(), true),
+            Faint::LastLane => ((b - 1..data).step_by(b).collect(), true),
+            Faint::Cell => ((cell..cell + b).collect(), true),
+            Faint::Diagonal => {
+                let t = 1 + self.random.below(k - 1);
+                (vec![shape.column(t).start + (m - 1 - t) * b + lane], true)
+            }
+            Faint::NoParity => return self.no_parity(shape),
+        };
+        for place in places {
+            stripe[place] = if matches!(faint, Faint::Pair | Faint::Diagonal) { 128 } else { self.random.nonzero() };
+        }
+        if valid {
+            encode(shape, &mut stripe);
+        }
+        stripe
+    }
+
+    /// One data column that is not zero, and two more that are fitted to it and to an H and D of zeros.
+    fn no_parity(&mut self, shape: Shape) -> Vec<u8> {
+        let fitted = self.random.two(shape.k);
+        let others: Vec<usize> = (0..shape.k).filter(|column| !fitted.contains(column)).collect();
+        let column = self.random.one_of(&others);
+        let mut stripe = vec![0; shape.stripe_length()];
+        self.hurt(shape, &mut stripe, column);
+        let mut bench = vec![0; shape.bench_length()];
+        let done = restore(shape, &Map::all_but(shape.columns(), &fitted), &stripe, &mut bench);
+        for (half, column) in [done.first, done.second].into_iter().enumerate() {
+            stripe[shape.column(column)].copy_from_slice(&bench[shape.column(half)]);
+        }
+        stripe
+    }
+
     /// Makes one column different from what it was: most of it, one lane, one cell or one byte.
     fn hurt(&mut self, shape: Shape, stripe: &mut [u8], column: usize) {
         let b = shape.b;
@@ -484,6 +627,7 @@ impl Maker {
                 stripe[k * shape.column_length()..].iter_mut().zip(parity).for_each(|(x, y)| *x ^= y);
             }
             Damage::Garbage => *stripe = self.random.bytes(stripe.len()),
+            Damage::Faint(faint) => *stripe = self.faint(shape, faint),
             _ => {}
         }
     }
@@ -597,7 +741,8 @@ impl Maker {
     }
 
     fn bad_length(&mut self, bytes: &mut Vec<u8>, column: usize) {
-        let (was, filler) = (bytes.len(), self.random.byte());
+        // What is all zero stays so.
+        let (was, filler) = (bytes.len(), if is_blank(bytes) { 0 } else { self.random.byte() });
         let now = match self.random.below(8) {
             0 => 0,
             1 => was + column,
@@ -620,12 +765,7 @@ impl Maker {
         };
         // Room for the faults that look at k: a place above the columns, a third column, a number above theirs.
         let has_room = |s: Shape| (!has(9) || s.k < PLACES - 2) && (!has(4) || s.k > 0) && (!has(7) || s.k < MAX - 2);
-        let good = self.shape_where(|s| {
-            (pattern != "data+data" || s.k > 1)
-                && (damage != Damage::Lanes || s.b > 1)
-                && (damage != Damage::Imaginary || s.k < s.m)
-                && has_room(s)
-        });
+        let good = self.shape_where(|s| (pattern != "data+data" || s.k > 1) && damage.can_be_at(s) && has_room(s));
         let absent = self.absent(good, pattern);
         let mut map = Map::all_but(good.columns(), &absent);
         let mut stripe = self.valid_stripe(good);
@@ -659,7 +799,8 @@ impl Maker {
         // Where a bad shape still has small products, the lengths follow it.
         let column = shape.m.wrapping_sub(1).wrapping_mul(shape.b);
         let length = shape.k.wrapping_add(2).wrapping_mul(column);
-        if shape != good && length <= 30_000 { stripe.resize(length, 7); }
+        let filler = if is_blank(&stripe) { 0 } else { 7 };
+        if shape != good && length <= 30_000 { stripe.resize(length, filler); }
         if shape != good && column <= 10_000 { bench.resize(2 * column, 7); }
         if has(2) { self.bad_length(&mut stripe, good.column_length()); }
         if has(3) { self.bad_length(&mut bench, good.column_length()); }
@@ -737,6 +878,10 @@ impl Maker {
                 let request =
                     if *told { Request::Rewrite(shape, stripe, column) } else { Request::Locate(shape, stripe) };
                 Case { request, expected: Some(FINE) }
+            }
+            Recipe::Blank(operation, kind) => {
+                let shape = self.shape_where(|s| extent(s) == *kind);
+                Case { request: operation(shape, vec![0; shape.stripe_length()]), expected: Some(FINE) }
             }
             Recipe::Mark(good) => {
                 let mut states = [false; PLACES];
@@ -888,6 +1033,51 @@ impl Maker {
         (image, Some(answer))
     }
 
+    /// A shape whose image fits the program's input.
+    fn image_shape(&mut self, wanted: impl Fn(Shape) -> bool) -> Shape {
+        self.shape_where(|s| wanted(s) && 8 + 8 * s.columns() + s.stripe_length() <= INPUT_LIMIT)
+    }
+
+    /// An image without these columns of a stripe that is zero but for what is named.
+    fn faint_image(&mut self, shape: Shape, absent: &[usize], faint: Faint) -> Vec<u8> {
+        let stripe = self.faint(shape, faint);
+        self.draw(shape, absent, &stripe, &[])
+    }
+
+    /// All zero, with at most two columns absent.
+    fn blank_image(&mut self, kind: &str) -> Vec<u8> {
+        let shape = self.image_shape(|s| extent(s) == kind);
+        let count = self.random.below(3);
+        let absent = self.random.two(shape.columns());
+        self.faint_image(shape, &absent[..count], Faint::Nothing)
+    }
+
+    /// So many columns absent, and of the others all zero but the first byte of the first or the last of the last.
+    fn one_byte_image(&mut self, count: usize, first: bool) -> Vec<u8> {
+        let shape = self.image_shape(|_| true);
+        let absent = self.random.two(shape.columns());
+        let mut image = self.faint_image(shape, &absent[..count], Faint::Nothing);
+        let place = if first { 8 + 8 * shape.columns() } else { image.len() - 1 };
+        image[place] = self.random.nonzero();
+        image
+    }
+
+    /// A valid stripe with one data column that is not zero, which is absent, alone or with H, D or another data column.
+    fn one_column_image(&mut self, with: &str) -> Vec<u8> {
+        let shape = self.image_shape(|s| with != "data" || s.k > 1);
+        let column = self.random.below(shape.k);
+        let mut stripe = vec![0; shape.stripe_length()];
+        self.hurt(shape, &mut stripe, column);
+        encode(shape, &mut stripe);
+        let absent = match with {
+            "H" => vec![column, shape.k],
+            "D" => vec![column, shape.k + 1],
+            "data" => vec![column, (column + 1 + self.random.below(shape.k - 1)) % shape.k],
+            _ => vec![column],
+        };
+        self.draw(shape, &absent, &stripe, &[])
+    }
+
     fn shelf_image(&mut self, turn: usize) -> (Vec<u8>, Option<u8>) {
         match turn % IMAGE_KINDS {
             n @ 0..=8 => self.shelf_case(&[], PATTERNS[n], Damage::None),
@@ -908,9 +1098,44 @@ impl Maker {
             86 => (self.random.bytes(2 * INPUT_LIMIT), Some(INPUT_TOO_LONG)),
             87 => (Vec::new(), Some(BAD_IMAGE)),
             88 => (vec![255; INPUT_LIMIT], Some(BAD_IMAGE)),
-            _ => {
+            89 | 90 => {
                 let flaws = self.random.two(FLAWS.len()).map(|n| FLAWS[n]);
                 (self.image(&flaws, "any", Damage::None).0, None)
+            }
+            n @ 91..=98 => {
+                let shape = self.image_shape(|s| n != 95 || s.k > 1);
+                let absent = self.absent(shape, PATTERNS[n - 91]);
+                (self.faint_image(shape, &absent, Faint::Nothing), Some(FINE))
+            }
+            n @ 99..=100 => (self.blank_image(EXTENTS[n - 98]), Some(FINE)),
+            101 => (self.sized(INPUT_LIMIT, BLANK), Some(FINE)),
+            102 => self.shelf_case(&[], "three-or-more", BLANK),
+            103 => self.shelf_case(&[], "all", BLANK),
+            // Two absent columns can always be had from the others.
+            n @ 104..=109 => {
+                let count = (n - 104) / 2;
+                (self.one_byte_image(count, n % 2 == 0), Some(if count < 2 { NONE_FITS } else { FINE }))
+            }
+            n @ 110..=113 => (self.one_column_image(["", "H", "D", "data"][n - 110]), Some(FINE)),
+            n @ 114..=115 => {
+                let shape = self.image_shape(|_| true);
+                let absent = [shape.k, shape.k + 1];
+                (self.faint_image(shape, &absent[..2 * (n - 114)], Faint::LastByte), Some(FINE))
+            }
+            n @ 116..=117 => {
+                let shape = self.image_shape(|s| s.k > 2);
+                let absent = self.random.two(shape.k);
+                (self.faint_image(shape, &absent[..2 * (n - 116)], Faint::NoParity), Some(FINE))
+            }
+            // With k above 2, so that all of the stripe's first half is zero.
+            118 => loop {
+                let image = self.sized(INPUT_LIMIT, Damage::Faint(Faint::LastByte));
+                if image[2] > 2 { break (image, Some(FINE)); }
+            },
+            _ => {
+                let mut image = self.sized(INPUT_LIMIT, BLANK);
+                image[INPUT_LIMIT - 1] = self.random.nonzero();
+                (image, None)
             }
         }
     }

@@ -83,13 +83,17 @@ pub fn shelf(image: &[u8]) -> String {
     let mut bench = vec![0; shape.bench_length()];
     read(image, &mut stripe);
     let answer = restore(shape, &map, &stripe, &mut bench).number;
-    if answer == FINE {
-        for column in 0..shape.columns() {
-            let part = show(shape, &map, &stripe, &bench, column);
-            let (word, lent) = if part.from_bench { ("restored", &bench) } else { ("present", &stripe) };
-            let bytes = hex(&lent[part.start..part.start + part.length]);
-            text += &format!("{column} {word} {bytes}\n");
-        }
+    if answer != FINE {
+        return text + &format!("answer {answer}\n");
     }
-    text + &format!("answer {answer}\n")
+    // The stripe after restoring: its columns that are present, and those that were restored.
+    let mut whole = Vec::new();
+    for column in 0..shape.columns() {
+        let part = show(shape, &map, &stripe, &bench, column);
+        let (word, lent) = if part.from_bench { ("restored", &bench) } else { ("present", &stripe) };
+        let bytes = &lent[part.start..part.start + part.length];
+        text += &format!("{column} {word} {}\n", hex(bytes));
+        whole.extend_from_slice(bytes);
+    }
+    text + if is_blank(&whole) { "answer 0 blank\n" } else { "answer 0\n" }
 }

@@ -91,8 +91,9 @@ static void answer(char **f)
     } else if (strcmp(f[0], "check") == 0) {
         Buffer s = buffer(f[4]);
         size_t rows = 77, diagonals = 77;
-        unsigned r = oarwillow_check(m, k, b, s.bytes, s.length, &rows, &diagonals);
-        printf("%u %zu %zu", r, rows, diagonals);
+        uint8_t found = 77;
+        unsigned r = oarwillow_check(m, k, b, s.bytes, s.length, &rows, &diagonals, &found);
+        printf("%u %zu %zu %u", r, rows, diagonals, found);
         done(s);
     } else if (strcmp(f[0], "restore") == 0) {
         Buffer s = buffer(f[5]), w = buffer(f[6]);

@@ -1,5 +1,5 @@
-//! The numbers of the document, as requests with the answers the document gives, and more about wrong shapes, lengths and
-//! gaps.
+//! The numbers of the document, as requests with the answers the document gives, and more about stripes near to blank, wrong
+//! shapes, lengths and gaps.
 
 use crate::code::*;
 use crate::image::shelf;
@@ -28,6 +28,32 @@ pub const C5_IMAGE: &str = "0300030001000000\
     0408152a391e";
 const C5_TEXT: &str = "shape 3 3 1|0 restored 0102|1 present 0408|2 restored 1020|\
     3 present 152a|4 present 391e|answer 0|";
+/// C11 as an image, without column 0, without 0 and 4, and without 0, 1 and 2.
+const C11_0_IMAGE: &str = "0300030001000000\
+    0000000000000000\
+    0100010030000000\
+    0200010032000000\
+    0300010034000000\
+    0400010036000000\
+    0000000000000000";
+const C11_0_4_IMAGE: &str = "0300030001000000\
+    0000000000000000\
+    0100010030000000\
+    0200010032000000\
+    0300010034000000\
+    0400000000000000\
+    000000000000";
+const C11_0_1_2_IMAGE: &str = "0300030001000000\
+    0000000000000000\
+    0100000000000000\
+    0200000000000000\
+    0300010030000000\
+    0400010032000000\
+    00000000";
+const C11_0_TEXT: &str = "shape 3 3 1|0 restored 0000|1 present 0000|2 present 0000|\
+    3 present 0000|4 present 0000|answer 0 blank|";
+const C11_0_4_TEXT: &str = "shape 3 3 1|0 restored 0000|1 present 0000|2 present 0000|\
+    3 present 0000|4 restored 0000|answer 0 blank|";
 
 fn present(places: &[usize]) -> String {
     (0..PLACES).map(|p| if places.contains(&p) { '1' } else { '0' }).collect()
@@ -77,17 +103,28 @@ pub fn all() -> Vec<Number> {
         ask("C5", format!("restore 3 3 1 {cols_134} ffff0408ffff152a391e 00000000"), s("0 2 0 2 01021020")),
         ask("C6", format!("restore 3 3 1 {} {C1_05} a1a2a3a4", present(&[1, 2, 3, 4])), s("5 0 129 129 a1a2a3a4")),
         ask("C7", format!("restore 3 3 1 {cols_134} {C1_05} 00000000"), s("0 2 0 2 00031021")),
-        ask("C8", format!("check 3 3 1 {C1_05}"), s("0 1 1")),
+        ask("C8", format!("check 3 3 1 {C1_05}"), s("0 1 1 3")),
         ask("C8", format!("locate 3 3 1 {C1_05}"), s("0 4 1")),
         ask("C8", format!("rewrite 3 3 1 {C1_05} 1"), format!("0 {C1}")),
-        ask("C9", format!("check 3 2 1 {C9}"), s("0 1 2")),
+        ask("C9", format!("check 3 2 1 {C9}"), s("0 1 2 3")),
         ask("C9", format!("locate 3 2 1 {C9}"), s("6 0 129")),
         // H would have column 0 be 11 02, and D's cell 1 would then be 0e.
         ask("C9", format!("rewrite 3 2 1 {C9} 0"), format!("5 {C9}")),
         ask("C10", format!("restore 3 3 1 {} {C1} a1a2a3a4", present(&[3, 4])), s("4 0 129 129 a1a2a3a4")),
-        ask("C11", format!("check 3 3 1 {}", zeros(10)), s("0 0 0")),
-        ask("C11", format!("locate 3 3 1 {}", zeros(10)), s("0 1 129")),
+        ask("C11", format!("check 3 3 1 {}", zeros(10)), s("0 0 0 2")),
+        ask("C11", format!("locate 3 3 1 {}", zeros(10)), s("0 2 129")),
         ask("C11", format!("rewrite 3 3 1 {} 4", zeros(10)), format!("0 {}", zeros(10))),
+        // a(0,0) is in row 0 and in D's equation 0, and not in S.
+        ask("C11,first", s("check 3 3 1 01000000000000000000"), s("0 1 1 3")),
+        ask("C11,first", s("locate 3 3 1 01000000000000000000"), s("0 4 0")),
+        // A cell of D or H is in one equation only.
+        ask("C11,last", s("check 3 3 1 00000000000000000001"), s("0 0 1 3")),
+        ask("C11,last", s("locate 3 3 1 00000000000000000001"), s("0 4 4")),
+        ask("C11,H", s("check 3 3 1 00000000000001000000"), s("0 1 0 3")),
+        ask("C11,H", s("locate 3 3 1 00000000000001000000"), s("0 4 3")),
+        printed("C11,0", C11_0_IMAGE, s(C11_0_TEXT)),
+        printed("C11,0,4", C11_0_4_IMAGE, s(C11_0_4_TEXT)),
+        printed("C11,0,1,2", C11_0_1_2_IMAGE, s("shape 3 3 1|answer 4|")),
     ];
     let shapes = [
         ("m=2", [2, 1, 1], 1),
@@ -109,7 +146,9 @@ pub fn all() -> Vec<Number> {
     for (name, [m, k, b], expected) in shapes {
         let length = (k + 2) * (m - 1) * b;
         let stripe = if length == 0 { s("-") } else { zeros(length) };
-        list.push(ask(name, format!("check {m} {k} {b} {stripe}"), format!("{expected} 0 0")));
+        // All zero, and so blank where it is not refused.
+        let found = if expected == 0 { 2 } else { 0 };
+        list.push(ask(name, format!("check {m} {k} {b} {stripe}"), format!("{expected} 0 0 {found}")));
     }
     // Too large for a stripe of their length.
     let large = [
@@ -122,7 +161,7 @@ pub fn all() -> Vec<Number> {
         ("all=max", [MAX, MAX, MAX], 1),
     ];
     for (name, [m, k, b], expected) in large {
-        list.push(ask(name, format!("check {m} {k} {b} -"), format!("{expected} 0 0")));
+        list.push(ask(name, format!("check {m} {k} {b} -"), format!("{expected} 0 0 0")));
     }
     let map = present(&[0, 1, 2, 3, 4]);
     let stray = present(&[0, 1, 2, 3, 4, 5]);
@@ -133,9 +172,9 @@ pub fn all() -> Vec<Number> {
     lanes[5] ^= 0x40;
     let lanes = hex(&lanes);
     list.extend([
-        ask("length=9", format!("check 3 3 1 {}", &C1[..18]), s("2 0 0")),
+        ask("length=9", format!("check 3 3 1 {}", &C1[..18]), s("2 0 0 0")),
         ask("length=9", format!("encode 3 3 1 {}", &C1[..18]), format!("2 {}", &C1[..18])),
-        ask("length=11", format!("check 3 3 1 {C1}00"), s("2 0 0")),
+        ask("length=11", format!("check 3 3 1 {C1}00"), s("2 0 0 0")),
         ask("length=11", format!("encode 3 3 1 {C1}00"), format!("2 {C1}00")),
         ask("place=5", format!("restore 3 3 1 {stray} {C1} a1a2a3a4"), s("9 0 129 129 a1a2a3a4")),
         ask("place=5", format!("show 3 3 1 {stray} {C1} a1a2a3a4 0"), s("9 0 0 0")),
@@ -163,7 +202,7 @@ pub fn all() -> Vec<Number> {
         ask("lanes", format!("rewrite 3 3 2 {lanes} 0"), format!("5 {lanes}")),
         ask("lanes", format!("rewrite 3 3 2 {lanes} 1"), format!("5 {lanes}")),
         ask("column=5", format!("rewrite 3 3 1 {C1_09} 5"), format!("7 {C1_09}")),
-        ask("08->09", format!("check 3 3 1 {C1_09}"), s("0 1 2")),
+        ask("08->09", format!("check 3 3 1 {C1_09}"), s("0 1 2 3")),
         ask("C5-image", format!("contents {C5_IMAGE}"), format!("0 3 3 1 {cols_134}")),
         ask(
             "C5-image",

@@ -150,7 +150,7 @@ impl Request {
             }
             Check(n, stripe) => {
                 let done = check(*n, stripe);
-                format!("{} {} {}", done.number, done.rows, done.diagonals)
+                format!("{} {} {} {}", done.number, done.rows, done.diagonals, done.found)
             }
             Restore(n, map, stripe, bench) => {
                 let mut bench = bench.clone();

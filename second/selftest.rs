@@ -1,7 +1,7 @@
 //! Tests: the document's numbers, exhaustive searches on small stripes, and the generator's own knowledge.
 
 use crate::code::*;
-use crate::generate::{IMAGE_KINDS, Maker, Random};
+use crate::generate::{BLANK_KINDS, IMAGE_KINDS, Maker, Random};
 use crate::image;
 use crate::lies;
 use crate::numbers;
@@ -119,6 +119,39 @@ fn is_valid(shape: Shape, stripe: &[u8]) -> bool {
     (counts.number, counts.rows, counts.diagonals) == (0, 0, 0)
 }
 
+/// How many equations break, of H and of D: byte by byte, as they are written down.
+fn counts_by_the_rules(Shape { m, k, b }: Shape, stripe: &[u8]) -> (usize, usize) {
+    let at = |row: usize, column: usize, lane: usize| stripe[(column * (m - 1) + row) * b + lane];
+    let a = |row: usize, t: usize, lane: usize| if row < m - 1 && t < k { at(row, t, lane) } else { 0 };
+    let (mut rows, mut diagonals) = (vec![false; m - 1], vec![false; m - 1]);
+    for lane in 0..b {
+        let s = (1..m).fold(0, |sum, t| sum ^ a(m - 1 - t, t, lane));
+        for i in 0..m - 1 {
+            rows[i] |= at(i, k, lane) != (0..m).fold(0, |sum, t| sum ^ a(i, t, lane));
+            diagonals[i] |= at(i, k + 1, lane) != (0..m).fold(s, |sum, t| sum ^ a((i + m - t) % m, t, lane));
+        }
+    }
+    let count = |list: Vec<bool>| list.into_iter().filter(|&breaks| breaks).count();
+    (count(rows), count(diagonals))
+}
+
+fn all_zero(bytes: &[u8]) -> bool { bytes.iter().map(|&byte| byte as usize).sum::<usize>() == 0 }
+
+/// The answer to a check by the definitions: blank if every byte is zero, intact if both counts are zero and some byte is
+/// not, and otherwise broken.
+fn check_by_the_rules(shape: Shape, stripe: &[u8]) -> String {
+    match plain_by_the_rules(shape, stripe) {
+        0 => {
+            let (rows, diagonals) = counts_by_the_rules(shape, stripe);
+            let (valid, zero) = ((rows, diagonals) == (0, 0), all_zero(stripe));
+            let (intact, blank) = (valid && !zero, zero);
+            assert!(valid == (intact || blank) && !(intact && blank), "valid is intact or blank, and never both");
+            format!("0 {rows} {diagonals} {}", if blank { 2 } else if intact { 1 } else { 3 })
+        }
+        number => format!("{number} 0 0 0"),
+    }
+}
+
 /// The stripe with the one content of a column that may make it valid, where that does so. It comes from the equations as
 /// they are written down: for a data column and for H from the rows, for D from the diagonals.
 fn filled_in(Shape { m, k, b }: Shape, stripe: &[u8], column: usize) -> Option<Vec<u8>> {
@@ -156,7 +189,7 @@ fn rewrite_by_the_rules(shape: Shape, stripe: &[u8], column: usize) -> (u8, Vec<
     }
 }
 
-/// Finding and rewriting joined in one: its number, the column, and the stripe afterwards. A valid stripe is intact, with
+/// Finding and rewriting joined in one: its number, the column, and the stripe afterwards. A valid stripe stays, with
 /// column 129. If a valid stripe differs from this one in exactly one column, that is rewritten.
 fn mend(shape: Shape, stripe: &[u8]) -> (u8, usize, Vec<u8>) {
     let number = plain_by_the_rules(shape, stripe);
@@ -173,10 +206,12 @@ fn locate_and_rewrite(test: &mut Test, random: &mut Random, shape: Shape, stripe
     let about = || format!("{shape} {:?}", &stripe[..stripe.len().min(60)]);
     let (number, column, mended) = mend(shape, stripe);
     let found = match (number, column) {
+        (0, 129) if all_zero(stripe) => 2,
         (0, 129) => 1,
         (0, _) => 4,
         _ => 0,
     };
+    let valid = found == 1 || found == 2;
     let done = locate(shape, stripe);
     test.same(|| format!("locate {}", about()), (done.number, done.found, done.column), (number, found, column));
     let mut after = stripe.to_vec();
@@ -194,9 +229,9 @@ fn locate_and_rewrite(test: &mut Test, random: &mut Random, shape: Shape, stripe
     for told in real.into_iter().chain([columns, columns + 1, 129, MAX]) {
         let about = || format!("column {told} of {}", about());
         let (number, wanted) = rewrite_by_the_rules(shape, stripe, told);
-        let passes = told < columns && (found == 1 || found == 4 && told == column);
+        let passes = told < columns && (valid || found == 4 && told == column);
         test.same(about, number, if passes { 0 } else if told < columns { 5 } else { 7 });
-        if found == 1 { test.same(about, &wanted[..], stripe); }
+        if valid { test.same(about, &wanted[..], stripe); }
         let mut held = vec![stripe.to_vec()];
         if told < columns {
             let contents: [fn(&mut Random) -> u8; 3] = [|_| 0, |_| 255, |random| random.below(256) as u8];
@@ -220,6 +255,23 @@ fn difference(shape: Shape, x: &[u8], y: &[u8]) -> u32 {
     columns.enumerate().filter(|(_, (a, b))| a != b).map(|(n, _)| 1 << n).sum()
 }
 
+/// The image of a stripe without the columns that are missing.
+fn image_of(shape: Shape, missing: &[usize], stripe: &[u8]) -> Vec<u8> {
+    let two = |number: usize| (number as u16).to_le_bytes();
+    let mut image = [two(shape.m), two(shape.k), two(shape.b), [0, 0]].concat();
+    let mut bodies = Vec::new();
+    let start = 8 + 8 * shape.columns();
+    for column in 0..shape.columns() {
+        let present = !missing.contains(&column);
+        let offset = if present { start + bodies.len() } else { 0 };
+        image.extend(two(column));
+        image.extend([present as u8, 0]);
+        image.extend((offset as u32).to_le_bytes());
+        if present { bodies.extend(&stripe[shape.column(column)]); }
+    }
+    [image, bodies].concat()
+}
+
 /// One bit to a cell: every stripe (or each `step`th), every column, every map, against the list of all valid stripes.
 fn every_bit_stripe(test: &mut Test, m: usize, k: usize, mark: u8, step: usize) {
     let shape = Shape { m, k, b: 1 };
@@ -239,12 +291,25 @@ fn every_bit_stripe(test: &mut Test, m: usize, k: usize, mark: u8, step: usize) 
         let near: Vec<usize> = (0..valid.len()).filter(|&v| distances[v].count_ones() <= 1).collect();
         let (number, found, column, mended) = match near[..] {
             [] => (NONE_NEAR, 0, NO_COLUMN, stripe),
+            [v] if distances[v] == 0 && stripe.iter().all(|&byte| byte == 0) => (FINE, 2, NO_COLUMN, stripe),
             [v] if distances[v] == 0 => (FINE, 1, NO_COLUMN, stripe),
             [v] => (FINE, 4, distances[v].trailing_zeros() as usize, valid[v]),
             _ => panic!("two valid stripes lie next to one stripe"),
         };
         let done = locate(shape, stripe);
         test.same(about, (done.number, done.found, done.column), (number, found, column));
+        let answer = Request::Check(shape, stripe.clone()).answer();
+        test.same(about, &answer, &check_by_the_rules(shape, stripe));
+        // Valid is what is intact or blank, for a check as for a locate, and of all stripes one is blank.
+        let said = answer.rsplit(' ').next().expect("what was found");
+        test.same(about, said == "1" || said == "2", distances.contains(&0));
+        test.same(about, said == "2", stripe == &every[0]);
+        let wanted = match found {
+            1 => "1",
+            2 => "2",
+            _ => "3",
+        };
+        test.same(about, said, wanted);
         test.same(about, mend(shape, stripe), (number, column, mended.clone()));
         for told in (0..columns + 2).chain([129, MAX]) {
             let agrees = |d: u32| told < columns && d & !(1 << told) == 0;
@@ -281,6 +346,16 @@ fn every_bit_stripe(test: &mut Test, m: usize, k: usize, mark: u8, step: usize) 
             };
             let got = (done.number, done.count, done.first, done.second);
             test.same(|| format!("restore {} {missing:?}", about()), (got, bench), (wanted, wanted_bench));
+            let mut text = format!("shape {m} {k} 1\n");
+            if wanted.0 == FINE {
+                let words = (0..columns).map(|c| if missing.contains(&c) { "restored" } else { "present" });
+                for (c, word) in words.enumerate() {
+                    text += &format!("{c} {word} {}\n", hex(&fitting[0][shape.column(c)]));
+                }
+            }
+            let blank = if wanted.0 == FINE && fitting[0] == &every[0] { " blank" } else { "" };
+            text += &format!("answer {}{blank}\n", wanted.0);
+            test.same(|| format!("shelf {} {missing:?}", about()), image::shelf(&image_of(shape, &missing, stripe)), text);
         }
     }
 }
@@ -309,7 +384,23 @@ fn every_column_content(test: &mut Test, shape: Shape, stripe: &[u8]) {
     }
 }
 
+/// Whole bytes at m=3 and k=1: every data, encoded. One of these stripes is blank, the others are intact.
+fn every_valid_stripe(test: &mut Test) {
+    let shape = Shape { m: 3, k: 1, b: 1 };
+    for content in 0..=u16::MAX {
+        let [x, y] = content.to_le_bytes();
+        let mut stripe = vec![x, y, 0, 0, 0, 0];
+        encode(shape, &mut stripe);
+        let about = || format!("valid stripe {stripe:?}");
+        let found = if content == 0 { 2 } else { 1 };
+        let (checked, located) = (check(shape, &stripe), locate(shape, &stripe));
+        test.same(about, (checked.number, checked.rows, checked.diagonals, checked.found), (0, 0, 0, found));
+        test.same(about, (located.number, located.found, located.column), (0, found, 129));
+    }
+}
+
 fn searches(test: &mut Test) {
+    every_valid_stripe(test);
     for k in 1..=3 { every_bit_stripe(test, 3, k, 0xa7, 1); }
     every_bit_stripe(test, 5, 1, 1, 1);
     every_bit_stripe(test, 5, 2, 0x80, 61);
@@ -375,6 +466,74 @@ fn lanes(test: &mut Test, shape: Shape, stripe: &[u8]) {
     }
 }
 
+/// The stripe that is all zero, for every operation; and it with one byte set, at every place or at some where there are
+/// many. A byte of H or D breaks one equation. One of the data breaks one of each, and on the diagonal of S all of D.
+fn blank(test: &mut Test) {
+    let mut random = Random(29);
+    let shapes = [
+        (3, 1, 1), (3, 2, 3), (3, 3, 1), (5, 1, 2), (5, 3, 1), (5, 5, 2), (7, 4, 1), (7, 7, 1), (11, 9, 130), (3, 2, 4096),
+        (31, 31, 1), (127, 1, 1), (127, 127, 1),
+    ];
+    for (m, k, b) in shapes {
+        let shape = Shape { m, k, b };
+        let (columns, length) = (k + 2, (k + 2) * (m - 1) * b);
+        let zero = vec![0; length];
+        let said = |request: Request| request.answer();
+        let about = || format!("blank {shape}");
+        test.same(about, said(Request::Check(shape, zero.clone())), "0 0 0 2".to_string());
+        test.same(about, said(Request::Locate(shape, zero.clone())), "0 2 129".to_string());
+        test.same(about, said(Request::Encode(shape, zero.clone())), format!("0 {}", hex(&zero)));
+        for column in [0, k - 1, k, k + 1] {
+            let rewritten = said(Request::Rewrite(shape, zero.clone(), column));
+            test.same(about, rewritten, format!("0 {}", hex(&zero)));
+            for other in [column, k, k + 1] {
+                let (low, high) = (column.min(other), column.max(other));
+                let map = Map::all_but(columns, &[low, high]);
+                let restored = said(Request::Restore(shape, map, zero.clone(), vec![0x5a; 2 * (m - 1) * b]));
+                let (count, second, kept) = if low == high { (1, 129, 1) } else { (2, high, 0) };
+                let bench = [vec![0; (2 - kept) * (m - 1) * b], vec![0x5a; kept * (m - 1) * b]].concat();
+                test.same(about, restored, format!("0 {count} {low} {second} {}", hex(&bench)));
+            }
+        }
+        // Of another length, or of a shape that is none, it is refused.
+        for (shape, stripe, number) in [
+            (shape, vec![0; length - 1], 2),
+            (shape, vec![0; length + 1], 2),
+            (shape, vec![], 2),
+            (Shape { m: 9, ..shape }, zero.clone(), 1),
+            (Shape { k: m + 1, ..shape }, zero.clone(), 12),
+            (Shape { b: 0, ..shape }, vec![], 13),
+        ] {
+            test.same(about, said(Request::Check(shape, stripe.clone())), format!("{number} 0 0 0"));
+            test.same(about, said(Request::Locate(shape, stripe)), format!("{number} 0 129"));
+        }
+        let some = [0, (m - 1) * b, k * (m - 1) * b - 1, k * (m - 1) * b, length - 1, random.below(length)];
+        let places = if length <= 100 { (0..length).collect() } else { some.to_vec() };
+        for place in places {
+            let mut stripe = zero.clone();
+            stripe[place] = 1 + random.below(255) as u8;
+            let (column, row) = (place / b / (m - 1), place / b % (m - 1));
+            let (rows, diagonals) = match column {
+                _ if column == k => (1, 0),
+                _ if column > k => (0, 1),
+                _ if column + row == m - 1 => (1, m - 1),
+                _ => (1, 1),
+            };
+            let about = || format!("byte {place} alone of {shape}");
+            test.same(about, said(Request::Check(shape, stripe.clone())), format!("0 {rows} {diagonals} 3"));
+            test.same(about, said(Request::Locate(shape, stripe.clone())), format!("0 4 {column}"));
+            let rewritten = said(Request::Rewrite(shape, stripe, column));
+            test.same(about, rewritten, format!("0 {}", hex(&zero)));
+        }
+    }
+}
+
+/// The columns that a text of `shelf` prints, without its first and last line.
+fn printed_columns(text: &str) -> Vec<&str> {
+    let lines = text.lines().filter(|line| !line.starts_with("shape ") && !line.starts_with("answer "));
+    lines.map(|line| line.rsplit(' ').next().expect("bytes")).collect()
+}
+
 fn generated(test: &mut Test) {
     for seed in 1..=3 {
         let mut random = Random(seed);
@@ -389,6 +548,9 @@ fn generated(test: &mut Test) {
             }
             let number: u8 = answer.split(' ').next().and_then(|n| n.parse().ok()).expect("a number");
             let head: String = line.chars().take(200).collect();
+            if let Request::Check(shape, stripe) = &request {
+                test.same(|| format!("seed {seed} {head}"), &answer, &check_by_the_rules(*shape, stripe));
+            }
             test.same(|| format!("seed {seed} {head}"), number, case.expected.unwrap_or(number));
             // A rewrite is lent the field before the last.
             let lent = line.rsplit(' ').nth((request.word() == "rewrite") as usize);
@@ -412,9 +574,19 @@ fn generated(test: &mut Test) {
         }
         for (turn, (bytes, expected)) in Maker::new(seed).shelf_images(2 * IMAGE_KINDS).enumerate() {
             let text = image::shelf(&bytes);
-            let number = text.trim_end().rsplit(' ').next().and_then(|n| n.parse().ok()).expect("a number");
+            let last = text.lines().last().and_then(|line| line.strip_prefix("answer ")).expect("an answer");
+            let number = last.trim_end_matches(" blank").parse().expect("a number");
             test.same(|| format!("seed {seed} image {turn}"), number, expected.unwrap_or(number));
-            let columns: Vec<&str> = text.lines().filter_map(|line| line.split(' ').nth(2)).skip(1).collect();
+            let columns = printed_columns(&text);
+            // The word is there exactly when there are columns and every digit of them is 0.
+            let zero = !columns.is_empty() && columns.concat().bytes().all(|digit| digit == b'0');
+            let wanted = if zero { "0 blank".to_string() } else { number.to_string() };
+            test.same(|| format!("seed {seed} image {turn} blank"), last, &wanted[..]);
+            if BLANK_KINDS.contains(&(turn % IMAGE_KINDS)) {
+                test.same(|| format!("seed {seed} image {turn} all zero"), last, "0 blank");
+            } else if turn % IMAGE_KINDS > *BLANK_KINDS.end() && number == FINE {
+                test.same(|| format!("seed {seed} image {turn} not all zero"), last, "0");
+            }
             test.same(|| format!("seed {seed} image {turn} lines"), !columns.is_empty(), number == FINE);
             let alone = text == format!("answer {number}\n");
             test.same(|| format!("seed {seed} image {turn} answer"), alone, [1, 8, 10, 12, 13].contains(&number));
@@ -464,6 +636,7 @@ fn images(test: &mut Test) {
 const MAX: usize = usize::MAX;
 const RESTORE_ORDER: [u8; 9] = [1, 12, 13, 2, 3, 17, 9, 4, 5];
 const SHOW_ORDER: [u8; 9] = [1, 12, 13, 2, 3, 17, 9, 7, 4];
+const PLAIN_ORDER: [u8; 4] = [1, 12, 13, 2];
 const LOCATE_ORDER: [u8; 5] = [1, 12, 13, 2, 6];
 const REWRITE_ORDER: [u8; 6] = [1, 12, 13, 2, 7, 5];
 
@@ -619,7 +792,8 @@ fn false_maps_in_order(test: &mut Test) {
     }
 }
 
-/// Every set of faults of a locate and of a rewrite, and the text of their requests.
+/// Every set of faults of a check, of a locate and of a rewrite, and the text of their requests. Check and locate get also
+/// a stripe of zeros instead.
 fn orders(test: &mut Test) {
     for faults in sets(&LOCATE_ORDER) {
         let (shape, _, stripe, ..) = with_faults(&faults);
@@ -627,6 +801,17 @@ fn orders(test: &mut Test) {
         let number = first_of(&LOCATE_ORDER, &faults);
         let wanted = (number, if number == 0 { 1 } else { 0 }, 129);
         test.same(|| format!("locate, faults {faults:?}"), (done.number, done.found, done.column), wanted);
+        let zero = vec![0; stripe.len()];
+        let number = first_of(&PLAIN_ORDER, &faults);
+        let done = locate(shape, &zero);
+        let wanted = (number, if number == 0 { 2 } else { 0 }, 129);
+        test.same(|| format!("locate zeros, faults {faults:?}"), (done.number, done.found, done.column), wanted);
+        for (stripe, found) in [(stripe, if faults.contains(&6) { 3 } else { 1 }), (zero, 2)] {
+            let done = check(shape, &stripe);
+            let about = || format!("check, faults {faults:?}, found {found}");
+            test.same(about, (done.number, done.found), (number, if number == 0 { found } else { 0 }));
+            test.same(about, (done.rows, done.diagonals) == (0, 0), number != 0 || found != 3);
+        }
     }
     let (.., sound, _, _) = with_faults(&[]);
     for faults in sets(&REWRITE_ORDER) {
@@ -784,11 +969,12 @@ fn maps(test: &mut Test) {
 }
 
 pub fn run(out: &mut impl Write) -> io::Result<bool> {
-    let groups: [(&str, fn(&mut Test)); 9] = [
+    let groups: [(&str, fn(&mut Test)); 10] = [
         ("document", document),
         ("shapes", shapes),
         ("lengths", lengths),
         ("searches", searches),
+        ("blank", blank),
         ("ranks", ranks),
         ("images", images),
         ("maps", maps),

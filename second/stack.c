@@ -6,9 +6,9 @@
    dynamic linker takes when it looks for memcpy and memset at their first call: they are called before. Below the stack stands a page that
    nobody may touch.
 
-   The calls are made at shapes, and with columns absent or wrong, that take every way through the library: cells on both sides of 128
-   bytes, columns on both sides of 1,024 bytes, stripes on both sides of 256 KiB, few columns and many, up to the largest stripe. Each call
-   must answer the number that the rules give.
+   The calls are made at shapes, and with columns absent or wrong or all bytes zero, that take every way through the library: cells on
+   both sides of 128 bytes, columns on both sides of 1,024 bytes, stripes on both sides of 256 KiB, few columns and many, up to the largest
+   stripe. Each call must answer the number that the rules give, and check and locate must find what the rules say of the stripe.
 
    It prints a line for each call: the most bytes, and the first shape and case that took them. With a LIMIT it fails if they are more
    than LIMIT for any call; otherwise the calls at some of the shapes are then made again, each in a thread of 128 KiB. */
@@ -37,12 +37,13 @@ struct given {
     size_t changed[3]; /* places: a column's is made absent, another present */
     size_t wrong[2];   /* columns: the first is wrong in row 0 and lane 0, the second in row 1 */
     size_t lane;       /* and in this lane */
+    int blank;         /* the stripe that is read is all zero */
     unsigned number;
 };
 static struct given asked, worst[CALLS];
 static size_t most[CALLS], cases;
 
-static uint8_t *stripe, *bench, *image, places[129];
+static uint8_t *stripe, *zeros, *bench, *image, places[129];
 static size_t results[5];
 static uint8_t found;
 static unsigned answer;
@@ -57,19 +58,20 @@ static void die(const char *what)
 static void perform(void)
 {
     const struct given *g = &asked;
+    const uint8_t *read = g->blank ? zeros : stripe;
     size_t *r = results;
     switch (g->call) {
     case ENCODE:
         answer = oarwillow_encode(g->m, g->k, g->b, stripe, g->stripe_len);
         break;
     case CHECK:
-        answer = oarwillow_check(g->m, g->k, g->b, stripe, g->stripe_len, r, r + 1);
+        answer = oarwillow_check(g->m, g->k, g->b, read, g->stripe_len, r, r + 1, &found);
         break;
     case RESTORE:
         answer = oarwillow_restore(g->m, g->k, g->b, places, stripe, g->stripe_len, bench, g->bench_len, r, r + 1, r + 2);
         break;
     case LOCATE:
-        answer = oarwillow_locate(g->m, g->k, g->b, stripe, g->stripe_len, &found, r);
+        answer = oarwillow_locate(g->m, g->k, g->b, read, g->stripe_len, &found, r);
         break;
     case REWRITE:
         answer = oarwillow_rewrite(g->m, g->k, g->b, stripe, g->stripe_len, g->column);
@@ -192,6 +194,18 @@ static void spoil(void)
         stripe[asked.wrong[1] * column_length() + asked.b + asked.lane] ^= 2;
 }
 
+/* What a check or a locate must find. */
+static unsigned to_be_found(void)
+{
+    if (answer != 0)
+        return OARWILLOW_FOUND_REFUSED;
+    if (asked.blank)
+        return OARWILLOW_FOUND_BLANK;
+    if (asked.wrong[0] == NONE && asked.wrong[1] == NONE)
+        return OARWILLOW_FOUND_INTACT;
+    return asked.call == CHECK ? OARWILLOW_FOUND_BROKEN : OARWILLOW_FOUND_COLUMN;
+}
+
 /* Makes the call. The stripe is a valid one before and afterwards: a rewrite that is not refused makes it so. */
 static void measure(void)
 {
@@ -202,10 +216,13 @@ static void measure(void)
         if (asked.changed[i] != NONE)
             places[asked.changed[i]] ^= 1;
     spoil();
+    found = 77;
     run();
     bytes = written();
     if (answer != asked.number)
         die("another answer than the rules give");
+    if ((asked.call == CHECK || asked.call == LOCATE) && found != to_be_found())
+        die("something else found than the rules say");
     if (asked.call != REWRITE || answer != 0)
         spoil();
     if (most[asked.call] < bytes) {
@@ -222,6 +239,14 @@ static void with_wrong(enum call call, const char *words, size_t first, size_t s
     asked.wrong[0] = first;
     asked.wrong[1] = second;
     asked.lane = lane;
+    measure();
+}
+
+/* Calls with a stripe that is all zero. */
+static void with_zeros(enum call call)
+{
+    ask(call, "blank", 0);
+    asked.blank = 1;
     measure();
 }
 
@@ -304,6 +329,7 @@ static void at_shape(size_t m, size_t k, size_t b)
     with_wrong(CHECK, "intact", NONE, NONE, 0, 0);
     with_wrong(CHECK, "a data column wrong", 0, NONE, 0, 0);
     with_wrong(CHECK, "D wrong", d, NONE, 0, 0);
+    with_zeros(CHECK);
 
     with_map(RESTORE, "none absent", NONE, NONE, NONE, NONE, 0);
     with_map(RESTORE, "none absent, H wrong", NONE, NONE, NONE, h, 5);
@@ -330,6 +356,7 @@ static void at_shape(size_t m, size_t k, size_t b)
     with_wrong(LOCATE, "two wrong in one lane", 0, h, 0, 6);
     if (b > 1)
         with_wrong(LOCATE, "two wrong in two lanes", 0, h, b - 1, 6);
+    with_zeros(LOCATE);
 
     with_column("a data column wrong", 0, 0, NONE, 0, 0);
     with_column("the last data column wrong", last, NONE, last, b - 1, 0);
@@ -407,7 +434,8 @@ int main(int count, char **words)
     stripe = malloc(COLUMNS * (size_t)LONGEST + 8);
     image = malloc(8 + 8 * COLUMNS + COLUMNS * (size_t)LONGEST + 1);
     bench = malloc(2 * LONGEST);
-    if (!stripe || !image || !bench)
+    zeros = calloc(COLUMNS, LONGEST);
+    if (!stripe || !image || !bench || !zeros)
         die("no memory");
     memset(stripe, 1, COLUMNS * (size_t)LONGEST);
     memcpy(image, stripe, COLUMNS * (size_t)LONGEST);

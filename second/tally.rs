@@ -2,8 +2,8 @@
 
 use crate::code::*;
 use crate::generate::{
-    AT_MOST_ONE, BAD_B, BAD_K, BAD_M, GAP_KS, HEADER_ORDER, PATTERNS, PLAIN_ORDER, RESTORE_ORDER, REWRITE_ORDER,
-    SHOW_ORDER, SIZES, together,
+    AT_MOST_ONE, BAD_B, BAD_K, BAD_M, EXTENTS, GAP_KS, HEADER_ORDER, PATTERNS, PLAIN_ORDER, RESTORE_ORDER,
+    REWRITE_ORDER, SHOW_ORDER, SIZES, extent, together,
 };
 use crate::image;
 use crate::requests::Request;
@@ -35,10 +35,13 @@ const ORDERS: [(&str, &[u8]); 8] = [
     ("contents", &HEADER_ORDER),
 ];
 
-const SINGLE: [&str; 39] = [
-    "check intact", "check rows-only", "check diagonals-only", "check both",
-    "restore stale",
-    "locate intact", "locate data", "locate H", "locate D", "locate 6 imaginary", "locate 6 lanes",
+const SINGLE: [&str; 48] = [
+    "check intact", "check blank", "check broken", "check refused",
+    "check rows-only", "check diagonals-only", "check both",
+    "restore stale", "restore zero", "restore zero stale",
+    "locate intact", "locate blank", "locate refused",
+    "locate data", "locate H", "locate D", "locate 6 imaginary", "locate 6 lanes",
+    "rewrite zero", "rewrite zero damaged",
     "rewrite valid data", "rewrite valid H", "rewrite valid D",
     "rewrite damaged data", "rewrite damaged H", "rewrite damaged D",
     "rewrite 5 data", "rewrite 5 H", "rewrite 5 D",
@@ -48,6 +51,15 @@ const SINGLE: [&str; 39] = [
     "mark changed", "mark same",
     "k=1", "k=m", "1<k<m", "refused k=m+1", "refused m+1<k<128",
     "contents far",
+];
+
+/// Of a check or a locate of a stripe that is zero or nearly so, beside the kinds of shapes of those that are blank. Of an
+/// intact one the data is meant: its last byte alone is not zero, or its last column of several, and so on. With `sum zero`
+/// all bytes add up to zero, with and without carry.
+const FAINT: [&str; 14] = [
+    "zero refused", "one byte first", "one byte last", "one byte between", "one byte H", "one byte D", "sum zero",
+    "intact last byte", "intact last column", "intact one lane", "intact last lane", "intact one cell",
+    "intact sum zero", "intact parity zero",
 ];
 
 /// Of a request for gaps beside its k, where that is one of the named.
@@ -84,6 +96,10 @@ fn expected_cells() -> Vec<String> {
         cells.extend(together(order).iter().map(|faults| faults_cell(word, faults)));
     }
     cells.extend(SINGLE.iter().map(|name| name.to_string()));
+    for word in ["check", "locate"] {
+        cells.extend(EXTENTS.iter().map(|kind| format!("{word} blank {kind}")));
+        cells.extend(FAINT.iter().map(|name| format!("{word} {name}")));
+    }
     cells.extend(BAD_M.iter().map(|m| format!("refused m={m}")));
     cells.extend(BAD_K.iter().map(|k| format!("refused k={k}")));
     cells.extend(BAD_B.iter().map(|b| format!("refused b={b}")));
@@ -120,6 +136,11 @@ fn pattern(shape: Shape, absent: &[usize]) -> &'static str {
 fn is_valid(shape: Shape, stripe: &[u8]) -> bool {
     let done = check(shape, stripe);
     (done.number, done.rows, done.diagonals) == (FINE, 0, 0)
+}
+
+/// Whether all columns but these are zero.
+fn is_zero_without(shape: Shape, stripe: &[u8], absent: &[usize]) -> bool {
+    (0..shape.columns()).filter(|column| !absent.contains(column)).all(|column| is_blank(&stripe[shape.column(column)]))
 }
 
 /// Whether the only wrong column is an imaginary one; not asked where there are many.
@@ -207,14 +228,56 @@ impl Tally {
         }
     }
 
-    fn checked(&mut self, answer: &[usize]) {
-        self.add(match answer {
-            [0, 0, 0] => "check intact",
-            [0, _, 0] => "check rows-only",
-            [0, 0, _] => "check diagonals-only",
-            [0, ..] => "check both",
+    /// What of the stripe is not zero, where that is little.
+    fn faint(&mut self, word: &str, shape: Shape, stripe: &[u8], found: u8) {
+        if found == FOUND_BLANK { return self.add(format!("{word} blank {}", extent(shape))); }
+        let places: Vec<usize> = (0..stripe.len()).filter(|&place| stripe[place] != 0).collect();
+        if places.is_empty() && !stripe.is_empty() { self.add(format!("{word} zero refused")); }
+        if found == FOUND_NOTHING { return; }
+        let (k, b, length) = (shape.k, shape.b, shape.column_length());
+        let mut met = Vec::new();
+        if let [place] = places[..] {
+            met.push(match place {
+                0 => "one byte first",
+                _ if place + 1 == stripe.len() => "one byte last",
+                _ => "one byte between",
+            });
+            if place / length == k { met.push("one byte H"); }
+            if place / length == k + 1 { met.push("one byte D"); }
+        }
+        let (xor, sum) = stripe.iter().fold((0u8, 0u8), |(xor, sum), &byte| (xor ^ byte, sum.wrapping_add(byte)));
+        let sum_zero = (xor, sum) == (0, 0);
+        if sum_zero && found != FOUND_INTACT { met.push("sum zero"); }
+        if found == FOUND_INTACT {
+            if sum_zero { met.push("intact sum zero"); }
+            if is_blank(&stripe[k * length..]) { met.push("intact parity zero"); }
+            let data: Vec<usize> = places.into_iter().filter(|place| place / length < k).collect();
+            let one_lane = b > 1 && data.iter().all(|place| place % b == data[0] % b);
+            if data == [k * length - 1] { met.push("intact last byte"); }
+            if k > 1 && data[0] / length == k - 1 { met.push("intact last column"); }
+            if one_lane { met.push("intact one lane"); }
+            if one_lane && data[0] % b == b - 1 { met.push("intact last lane"); }
+            if data.iter().all(|place| place / b == data[0] / b) { met.push("intact one cell"); }
+        }
+        met.into_iter().for_each(|name| self.add(format!("{word} {name}")));
+    }
+
+    fn checked(&mut self, shape: Shape, stripe: &[u8], answer: &[usize]) {
+        let found = answer[3] as u8;
+        self.add(match found {
+            FOUND_INTACT => "check intact",
+            FOUND_BLANK => "check blank",
+            FOUND_BROKEN => "check broken",
             _ => "check refused",
         });
+        match answer[..3] {
+            [0, 0, 0] => {}
+            [0, _, 0] => self.add("check rows-only"),
+            [0, 0, _] => self.add("check diagonals-only"),
+            [0, ..] => self.add("check both"),
+            _ => {}
+        }
+        self.faint("check", shape, stripe, found);
     }
 
     fn restored(&mut self, shape: Shape, map: &Map, stripe: &[u8], bench: &[u8], number: u8) {
@@ -228,7 +291,12 @@ impl Tally {
             let mut filled = bench.to_vec();
             restore(shape, map, stripe, &mut filled);
             let stale = |(half, &c): (usize, &usize)| filled[shape.column(half)] != stripe[shape.column(c)];
-            if absent.iter().enumerate().any(stale) { self.add("restore stale"); }
+            let is_stale = absent.iter().enumerate().any(stale);
+            if is_stale { self.add("restore stale"); }
+            if is_zero_without(shape, stripe, &absent) {
+                self.add("restore zero");
+                if is_stale { self.add("restore zero stale"); }
+            }
         }
     }
 
@@ -276,10 +344,16 @@ impl Tally {
     }
 
     fn located(&mut self, shape: Shape, stripe: &[u8], answer: &[usize]) {
-        match *answer {
-            [0, 1, _] => self.add("locate intact"),
-            [0, _, column] => self.add(format!("locate {}", pattern(shape, &[column]))),
-            [6, ..] => {
+        let found = answer[1] as u8;
+        match found {
+            FOUND_INTACT => self.add("locate intact"),
+            FOUND_BLANK => self.add("locate blank"),
+            FOUND_COLUMN => self.add(format!("locate {}", pattern(shape, &answer[2..]))),
+            _ => self.add("locate refused"),
+        }
+        self.faint("locate", shape, stripe, found);
+        match answer[0] as u8 {
+            NONE_NEAR => {
                 if imaginary_is_wrong(shape, stripe) { self.add("locate 6 imaginary"); }
                 let (narrow, lanes) = lanes(shape, stripe);
                 if !lanes.is_empty() && lanes.iter().all(|lane| locate(narrow, lane).number == FINE) {
@@ -298,6 +372,9 @@ impl Tally {
             FINE => {
                 let state = if is_valid(shape, stripe) { "valid" } else { "damaged" };
                 self.add(format!("rewrite {state} {}", pattern(shape, &[column])));
+                if is_zero_without(shape, stripe, &[column]) {
+                    self.add(if state == "valid" { "rewrite zero" } else { "rewrite zero damaged" });
+                }
             }
             NONE_FITS => {
                 self.add(format!("rewrite 5 {}", pattern(shape, &[column])));
@@ -332,7 +409,7 @@ impl Tally {
             Request::Encode(shape, stripe) => self.plain("encode", *shape, stripe),
             Request::Check(shape, stripe) => {
                 self.plain("check", *shape, stripe);
-                self.checked(&answer);
+                self.checked(*shape, stripe, &answer);
             }
             Request::Locate(shape, stripe) => {
                 self.plain("locate", *shape, stripe);

@@ -8,7 +8,7 @@ typedef struct {
 } Part;
 
 uint8_t unproved_encode(size_t m, size_t k, size_t b, Part *stripe);
-uint8_t unproved_check(size_t m, size_t k, size_t b, Part *stripe, size_t *rows, size_t *diagonals);
+uint8_t unproved_check(size_t m, size_t k, size_t b, Part *stripe, size_t *rows, size_t *diagonals, uint8_t *found);
 uint8_t unproved_restore(size_t m, size_t k, size_t b, const uint8_t *places, Part *stripe, Part *bench, size_t *count, size_t *first,
                          size_t *second);
 uint8_t unproved_locate(size_t m, size_t k, size_t b, Part *stripe, uint8_t *found, size_t *column);
@@ -27,10 +27,11 @@ uint8_t oarwillow_encode(size_t m, size_t k, size_t b, uint8_t *stripe, size_t s
     return unproved_encode(m, k, b, &s);
 }
 
-uint8_t oarwillow_check(size_t m, size_t k, size_t b, const uint8_t *stripe, size_t stripe_len, size_t *rows, size_t *diagonals)
+uint8_t oarwillow_check(size_t m, size_t k, size_t b, const uint8_t *stripe, size_t stripe_len, size_t *rows, size_t *diagonals,
+                        uint8_t *found)
 {
     Part s = {stripe, stripe_len};
-    return unproved_check(m, k, b, &s, rows, diagonals);
+    return unproved_check(m, k, b, &s, rows, diagonals, found);
 }
 
 uint8_t oarwillow_restore(size_t m, size_t k, size_t b, const uint8_t places[129], const uint8_t *stripe, size_t stripe_len,

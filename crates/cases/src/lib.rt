@@ -1,7 +1,9 @@
 // The document's cases C1 to C11, as lines of text; each function answers the place after its lines, which have a greatest length. C1 is the stripe of m = 3,
-// k = 3, b = 1 with the data 01 02, 04 08, 10 20. Right and wrong shapes stand in `shapes`.
+// k = 3, b = 1 with the data 01 02, 04 08, 10 20. Right and wrong shapes stand in `shapes`, and what is nearly C11 in `blank`.
+mod blank;
 mod shapes;
 
+pub use blank::blank_lines;
 use evenodd::Map;
 use say::check_line;
 use say::encode_line;
@@ -146,7 +148,7 @@ pub fn wrong_byte(out: &mut [u8], at: usize) -> usize
 
 // C8: the same stripe checked, and its wrong column located and rewritten.
 pub fn wrong_column(out: &mut [u8], at: usize) -> usize
-    ensures { λ r. ⌜ (at ≤ r) × (r ≤ at + 266) ⌝ }
+    ensures { λ r. ⌜ (at ≤ r) × (r ≤ at + 271) ⌝ }
 {
     let mut c8 = [1u8, 2, 5, 8, 16, 32, 21, 42, 57, 30];
     let first = check_line(out, at, b"C8", 3, 3, 1, &c8);
@@ -156,7 +158,7 @@ pub fn wrong_column(out: &mut [u8], at: usize) -> usize
 
 // C9: a wrong column that is none of the stripe's.
 pub fn imaginary_column(out: &mut [u8], at: usize) -> usize
-    ensures { λ r. ⌜ (at ≤ r) × (r ≤ at + 266) ⌝ }
+    ensures { λ r. ⌜ (at ≤ r) × (r ≤ at + 271) ⌝ }
 {
     let mut c9 = [1u8, 2, 4, 8, 21, 10, 25, 30];
     let first = check_line(out, at, b"C9", 3, 2, 1, &c9);
@@ -164,9 +166,9 @@ pub fn imaginary_column(out: &mut [u8], at: usize) -> usize
     rewrite_line(out, second, b"C9", [3, 2, 1], &mut c9, 0)
 }
 
-// C10 and C11: three columns absent, and an intact stripe.
+// C10 and C11: three columns absent, and a blank stripe.
 pub fn three_absent(out: &mut [u8], at: usize) -> usize
-    ensures { λ r. ⌜ (at ≤ r) × (r ≤ at + 502) ⌝ }
+    ensures { λ r. ⌜ (at ≤ r) × (r ≤ at + 507) ⌝ }
 {
     let c1 = [1u8, 2, 4, 8, 16, 32, 21, 42, 57, 30];
     let mut bench = [161u8, 162, 163, 164];

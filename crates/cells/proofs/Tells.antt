@@ -1,13 +1,17 @@
--- Laws of `Tells`: a number that is 0 exactly when all of some others are.
+-- Laws of `Tells`, a number that is 0 exactly when all of some others are, and of `Zeros`.
 --   tells-none, tells-one   of no numbers, and of one more
 --   tells-same              of the same numbers by another name
+--   zeros-at                a run of zeros has no other byte, past its end either
 --   or-left, or-right, or-none   what is or-ed together is 0 exactly when both parts are
 use mathlib.Core.Path.{_≡_, refl, sym, ap, _∙_}
+use mathlib.Core.List.{List}
 use Prim.Native.Nat.{ℕ, _+_, _<_}
 use native.Mathlib.Omega.{arith}
+use lib.ListN.{getD}
 use lib.Bits.{bitOr, or-add-and, and-le-l, and-le-r}
 use borrow.Author.Count.{below-more}
-use Rattle.cells.specs.Runs.{Tells}
+use Rattle.parity.proofs.Bytes.{zeros-past}
+use Rattle.cells.specs.Runs.{Tells, Zeros}
 
 pub or-left : (a b : ℕ) → bitOr a b ≡ 0 → a ≡ 0
 or-left a b e = omega (arith, or-add-and a b, and-le-r a b, e)
@@ -29,3 +33,6 @@ tells-one o j f b e s = record {
 
 pub tells-same : {r n : ℕ} {f g : ℕ → ℕ} → Tells r n f → ((l : ℕ) → l < n → f l ≡ g l) → Tells r n g
 tells-same s so = record { none = λ e l h. sym (so l h) ∙ s .none e l h; all = λ e. s .all (λ l h. so l h ∙ e l h) }
+
+pub zeros-at : {x : List ℕ} → Zeros x → (l : ℕ) → getD x l 0 ≡ 0
+zeros-at {x} z = zeros-past x (z .each)

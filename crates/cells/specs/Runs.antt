@@ -4,6 +4,8 @@
 --   Through s t from mid to n   s became t: the n bytes at `from` were added to those at `mid`, and these then to those at `to`;
 --                               `between` is what s was between the two
 --   Tells r n f      r is 0 exactly when f 0 to f (n - 1) are
+--   First r n f      r is the first number below n at which f is not zero; n where there is none
+--   Zeros x          every byte of x is zero
 use mathlib.Core.Path.{_≡_}
 use mathlib.Core.List.{List}
 use Prim.Native.Nat.{ℕ, _+_, _≤_, _<_}
@@ -28,3 +30,11 @@ pub record Through (s t : List ℕ) (from mid to n : ℕ) : Type 0 where
 pub record Tells (r n : ℕ) (f : ℕ → ℕ) : Type 0 where
   pub none : r ≡ 0 → (l : ℕ) → l < n → f l ≡ 0
   pub all : ((l : ℕ) → l < n → f l ≡ 0) → r ≡ 0
+
+pub record First (r n : ℕ) (f : ℕ → ℕ) : Type 0 where
+  pub within : r ≤ n
+  pub before : (l : ℕ) → l < r → f l ≡ 0
+  pub there : r < n → f r ≡ 0 → ⊥
+
+pub record Zeros (x : List ℕ) : Type 0 where
+  pub each : (l : ℕ) → l < length x → getD x l 0 ≡ 0

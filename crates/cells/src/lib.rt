@@ -1,9 +1,11 @@
 // Runs of bytes: added (exclusive or), copied, cleared and tested, byte for byte.
 ghost use mathlib.Core.Path.{_≡_};
-ghost use Prim.Native.Nat.{_+_, _≤_, _<_};
+ghost use mathlib.Core.Logic.{_↔_};
+ghost use mathlib.Core.Bool.{true};
+ghost use Prim.Native.Nat.{ℕ, _+_, _≤_, _<_};
 ghost use lib.ListN.{length, getD};
 ghost use Rattle.parity.specs.Xor.{_⊕_};
-ghost use Rattle.cells.specs.Runs.{Added, Put, Through, Tells};
+ghost use Rattle.cells.specs.Runs.{Added, Put, Through, Tells, First, Zeros};
 
 // Adds cell to acc.
 pub fn xor_into(acc: &mut [u8], cell: &[u8])
@@ -55,6 +57,39 @@ pub fn any(x: &[u8]) -> u8
         o = o | x[j];
     }
     o
+}
+
+// A place in x before which all bytes are zero, found in steps of 64 bytes: where they are not, or where fewer are left.
+fn skip_zeros(x: &[u8]) -> usize
+    ensures { λ r. ⌜ (r ≤ length (now (x .entry))) × ((l : ℕ) → l < r → getD (now (x .entry)) l 0 ≡ 0) ⌝ }
+{
+    let mut j: usize = 0;
+    while 64 <= x.len() - j {
+        if any(&x[j..j + 64]) != 0 {
+            return j;
+        }
+        j += 64;
+    }
+    j
+}
+
+// The place of the first byte of x that is not zero; x's length where there is none.
+pub fn find_set(x: &[u8]) -> usize
+    ensures { λ r. ⌜ First r (length (now (x .entry))) (λ l. getD (now (x .entry)) l 0) ⌝ }
+{
+    for j in skip_zeros(x)..x.len() {
+        if x[j] != 0 {
+            return j;
+        }
+    }
+    x.len()
+}
+
+// Whether every byte of x is zero. The look ends at the first that is not.
+pub fn is_zero(x: &[u8]) -> bool
+    ensures { λ r. ⌜ (r ≡ true) ↔ Zeros (now (x .entry)) ⌝ }
+{
+    find_set(x) == x.len()
 }
 
 // Adds the n bytes at `from` to the n bytes at `at`, none of which is written before it is read.

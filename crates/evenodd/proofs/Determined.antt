@@ -16,6 +16,7 @@ use Rattle.parity.proofs.Theorems.{frame, served, at-most-one, absent-unread, o
 use Rattle.inputs.specs.Rules.{tooManyAbsent, contradicted, unmendable, stripeRules, lentRules, gapRules, restoreRules, showRules}
 use Rattle.inputs.proofs.Rules.{passes-not, refuse-one, gives-one, passed-first, gives-passed, gives-instead}
 use Rattle.inputs.proofs.Stripe.{stripe-given}
+use Rattle.evenodd.specs.declared.checks.Checked.{Checked}
 use Rattle.evenodd.specs.declared.checks.Checked.the-variants as checked
 use Rattle.evenodd.specs.declared.encodes.Encoded.the-variants as encoded
 use Rattle.evenodd.proofs.Located.{not-one}
@@ -29,12 +30,14 @@ use Rattle.inputs.proofs.Absent.{nth-one}
 use Rattle.inputs.specs.declared.maps.Map.{Map}
 use Rattle.inputs.specs.Refusals.{pass, Gives, Verdict}
 use Rattle.inputs.proofs.Tests.{lent-given}
+use Rattle.evenodd.specs.declared.locates.Located.{Located}
 use Rattle.evenodd.specs.declared.locates.Located.the-variants as located
 use Rattle.evenodd.specs.declared.restores.Restored.the-variants as restored
 use Rattle.evenodd.specs.declared.rewrites.Rewritten.{Rewritten}
 use Rattle.evenodd.specs.declared.rewrites.Rewritten.the-variants as rewritten
 use Rattle.evenodd.specs.Restores.{Benched, RestoredFrom}
-use Rattle.evenodd.specs.Locates.{locateRules}
+use Rattle.evenodd.specs.Checks.{Checks}
+use Rattle.evenodd.specs.Locates.{locateRules, verdictOf, columnOf, Locates}
 use Rattle.evenodd.specs.Rewrites.{columnRules, rewriteRules, Rewrites}
 use Rattle.evenodd.specs.Mends.{Mends}
 use denote.Ref.{RefT, now}
@@ -66,18 +69,23 @@ encodes-one m k b s x y (encoded.Refused f) (encoded.Refused g) p q =
 
 pub checks-one : ChecksOne
 unfolding ChecksOne
-checks-one m k b s checked.Intact checked.Intact p q = refl
-checks-one m k b s checked.Intact (checked.Broken x y) p q = sym (q .counted refl .intact .1 (p .counted refl .intact .0 refl))
-checks-one m k b s checked.Intact (checked.Refused g) p q = absurd (passes-not g (gives-one (stripeRules m k b (length s)) _ _ (p .told) (q .told)))
-checks-one m k b s (checked.Broken x y) checked.Intact p q = p .counted refl .intact .1 (q .counted refl .intact .0 refl)
-checks-one m k b s (checked.Broken x y) (checked.Broken u v) p q =
-    let c = p .counted refl in
-    let d = q .counted refl in
-    ap₂ checked.Broken (c .rows ∙ sym (d .rows)) (c .diagonals ∙ sym (d .diagonals))
-checks-one m k b s (checked.Broken x y) (checked.Refused g) p q = absurd (passes-not g (gives-one (stripeRules m k b (length s)) _ _ (p .told) (q .told)))
-checks-one m k b s (checked.Refused f) checked.Intact p q = absurd (passes-not f (gives-one (stripeRules m k b (length s)) _ _ (q .told) (p .told)))
-checks-one m k b s (checked.Refused f) (checked.Broken u v) p q = absurd (passes-not f (gives-one (stripeRules m k b (length s)) _ _ (q .told) (p .told)))
-checks-one m k b s (checked.Refused f) (checked.Refused g) p q = ap checked.Refused (refuse-one f g (gives-one (stripeRules m k b (length s)) _ _ (p .told) (q .told)))
+checks-one m k b s r q p h = go r q p h
+  where
+    answered : (v w : Verdict) → Gives (stripeRules m k b (length s)) v → Gives (stripeRules m k b (length s)) w → v ≡ w
+    answered v w = gives-one (stripeRules m k b (length s)) v w
+
+    go : (r q : Checked) → Checks m k b s r → Checks m k b s q → r ≡ q
+    go checked.Intact q p h = sym (h .counted (answered _ _ (h .told) (p .told)) .intact .1 (p .counted refl .intact .0 refl))
+    go checked.Blank q p h = sym (h .counted (answered _ _ (h .told) (p .told)) .blank .1 (p .counted refl .blank .0 refl))
+    go (checked.Broken x y) checked.Intact p h = p .counted refl .intact .1 (h .counted refl .intact .0 refl)
+    go (checked.Broken x y) checked.Blank p h = p .counted refl .blank .1 (h .counted refl .blank .0 refl)
+    go (checked.Broken x y) (checked.Broken u v) p h =
+        let c = p .counted refl in let d = h .counted refl in ap₂ checked.Broken (c .rows ∙ sym (d .rows)) (c .diagonals ∙ sym (d .diagonals))
+    go (checked.Broken x y) (checked.Refused g) p h = absurd (passes-not g (answered _ _ (p .told) (h .told)))
+    go (checked.Refused f) checked.Intact p h = absurd (passes-not f (answered _ _ (h .told) (p .told)))
+    go (checked.Refused f) checked.Blank p h = absurd (passes-not f (answered _ _ (h .told) (p .told)))
+    go (checked.Refused f) (checked.Broken u v) p h = absurd (passes-not f (answered _ _ (h .told) (p .told)))
+    go (checked.Refused f) (checked.Refused g) p h = ap checked.Refused (refuse-one f g (answered _ _ (p .told) (h .told)))
 
 -- ---- restore
 
@@ -152,15 +160,19 @@ restores-unread m k b map s other bench x r p e a = record {
 
 pub locates-one : LocatesOne
 unfolding LocatesOne
-locates-one m k b s located.Intact located.Intact p q = refl
-locates-one m k b s located.Intact (located.Column v) p q = sym (q .found refl .intact .1 (p .found refl .intact .0 refl))
-locates-one m k b s located.Intact (located.Refused g) p q = absurd (passes-not g (gives-one (locateRules m k b s) _ _ (p .told) (q .told)))
-locates-one m k b s (located.Column u) located.Intact p q = p .found refl .intact .1 (q .found refl .intact .0 refl)
-locates-one m k b s (located.Column u) (located.Column v) p q = sym (q .found refl .named u .1 (p .found refl .named u .0 refl))
-locates-one m k b s (located.Column u) (located.Refused g) p q = absurd (passes-not g (gives-one (locateRules m k b s) _ _ (p .told) (q .told)))
-locates-one m k b s (located.Refused f) located.Intact p q = absurd (passes-not f (gives-one (locateRules m k b s) _ _ (q .told) (p .told)))
-locates-one m k b s (located.Refused f) (located.Column v) p q = absurd (passes-not f (gives-one (locateRules m k b s) _ _ (q .told) (p .told)))
-locates-one m k b s (located.Refused f) (located.Refused g) p q = ap located.Refused (refuse-one f g (gives-one (locateRules m k b s) _ _ (p .told) (q .told)))
+locates-one m k b s r q p h = go r q p h
+  where
+    answered : (v w : Verdict) → Gives (locateRules m k b s) v → Gives (locateRules m k b s) w → v ≡ w
+    answered v w = gives-one (locateRules m k b s) v w
+
+    go : (r q : Located) → Locates m k b s r → Locates m k b s q → r ≡ q
+    go located.Intact q p h = sym (h .found (answered _ _ (h .told) (p .told)) .intact .1 (p .found refl .intact .0 refl))
+    go located.Blank q p h = sym (h .found (answered _ _ (h .told) (p .told)) .blank .1 (p .found refl .blank .0 refl))
+    go (located.Column u) q p h = sym (h .found (answered _ _ (h .told) (p .told)) .named u .1 (p .found refl .named u .0 refl))
+    go (located.Refused f) located.Intact p h = absurd (passes-not f (answered _ _ (h .told) (p .told)))
+    go (located.Refused f) located.Blank p h = absurd (passes-not f (answered _ _ (h .told) (p .told)))
+    go (located.Refused f) (located.Column v) p h = absurd (passes-not f (answered _ _ (h .told) (p .told)))
+    go (located.Refused f) (located.Refused g) p h = ap located.Refused (refuse-one f g (answered _ _ (p .told) (h .told)))
 
 -- ---- rewrite
 
@@ -198,26 +210,35 @@ rewrites-one m k b column s x y (rewritten.Refused f) (rewritten.Refused g) p q 
 pub locate-passed : (m k b : ℕ) (s : List ℕ) → Gives (locateRules m k b s) pass → Shape m k b × (length s ≡ stripeLength m k b)
 locate-passed m k b s g = stripe-given m k b (length s) (gives-passed (stripeRules m k b (length s)) (unmendable m k b s ∷ []) g .0)
 
--- an intact stripe is valid, and was
-intact-valid : {m k b : ℕ} {s x : List ℕ} → Mends m k b s x located.Intact → Valid m k b s
-intact-valid p = rw (p .kept refl) at (p .valid refl)
+module _ (m k b : ℕ) (s : List ℕ) where
+  answered : (v w : Verdict) → Gives (locateRules m k b s) v → Gives (locateRules m k b s) w → v ≡ w
+  answered v w = gives-one (locateRules m k b s) v w
+
+  -- one of two that names no column, and is not refused: the stripe is valid, so the other names none either, and both leave it as it was
+  none-named : {x y : List ℕ} (r q : Located) → verdictOf r ≡ pass → columnOf r ≡ 129 → Mends m k b s x r → Mends m k b s y q → (columnOf q ≡ 129) × (x ≡ y)
+  none-named r located.Intact e none p h = (refl, p .kept none ∙ sym (h .kept refl))
+  none-named r located.Blank e none p h = (refl, p .kept none ∙ sym (h .kept refl))
+  none-named {x} {y} r (located.Column v) e none p h =
+      absurd (not-one m k b (locate-passed m k b s (h .told) .0) s y v (h .named v refl) (rw (p .kept none) at (p .valid e)) (h .valid refl) (h .differed refl))
+  none-named r (located.Refused g) e none p h = absurd (passes-not g (sym e ∙ answered _ _ (p .told) (h .told)))
+
+  mends-alike : {x y : List ℕ} (r q : Located) → Mends m k b s x r → Mends m k b s y q → (columnOf r ≡ columnOf q) × (x ≡ y)
+  unfolding OneWrong
+  mends-alike located.Intact q p h = let (a, c) = none-named located.Intact q refl refl p h in (sym a, c)
+  mends-alike located.Blank q p h = let (a, c) = none-named located.Blank q refl refl p h in (sym a, c)
+  mends-alike (located.Column u) located.Intact p h = let (a, c) = none-named located.Intact (located.Column u) refl refl h p in (a, sym c)
+  mends-alike (located.Column u) located.Blank p h = let (a, c) = none-named located.Blank (located.Column u) refl refl h p in (a, sym c)
+  mends-alike {x} {y} (located.Column u) (located.Column v) p h =
+      one-wrong m k b (locate-passed m k b s (p .told) .0) s x y u v (p .named u refl) (h .named v refl) (p .valid refl) (h .valid refl) (p .differed refl) (h .differed refl)
+  mends-alike (located.Column u) (located.Refused g) p h = absurd (passes-not g (answered _ _ (p .told) (h .told)))
+  mends-alike (located.Refused f) located.Intact p h = absurd (passes-not f (answered _ _ (h .told) (p .told)))
+  mends-alike (located.Refused f) located.Blank p h = absurd (passes-not f (answered _ _ (h .told) (p .told)))
+  mends-alike (located.Refused f) (located.Column v) p h = absurd (passes-not f (answered _ _ (h .told) (p .told)))
+  mends-alike (located.Refused f) (located.Refused g) p h = (refl, p .kept refl ∙ sym (h .kept refl))
 
 pub mends-one : MendsOne
-unfolding MendsOne OneWrong
-mends-one m k b s x y located.Intact located.Intact p q = (refl, p .kept refl ∙ sym (q .kept refl))
-mends-one m k b s x y located.Intact (located.Column v) p q =
-    absurd (not-one m k b (locate-passed m k b s (p .told) .0) s y v (q .named v refl) (intact-valid p) (q .valid refl) (q .differed refl))
-mends-one m k b s x y located.Intact (located.Refused g) p q = absurd (passes-not g (gives-one (locateRules m k b s) _ _ (p .told) (q .told)))
-mends-one m k b s x y (located.Column u) located.Intact p q =
-    absurd (not-one m k b (locate-passed m k b s (p .told) .0) s x u (p .named u refl) (intact-valid q) (p .valid refl) (p .differed refl))
-mends-one m k b s x y (located.Column u) (located.Column v) p q =
-    let (a, c) = one-wrong m k b (locate-passed m k b s (p .told) .0) s x y u v (p .named u refl) (q .named v refl) (p .valid refl) (q .valid refl) (p .differed refl) (q .differed refl) in
-    (ap located.Column a, c)
-mends-one m k b s x y (located.Column u) (located.Refused g) p q = absurd (passes-not g (gives-one (locateRules m k b s) _ _ (p .told) (q .told)))
-mends-one m k b s x y (located.Refused f) located.Intact p q = absurd (passes-not f (gives-one (locateRules m k b s) _ _ (q .told) (p .told)))
-mends-one m k b s x y (located.Refused f) (located.Column v) p q = absurd (passes-not f (gives-one (locateRules m k b s) _ _ (q .told) (p .told)))
-mends-one m k b s x y (located.Refused f) (located.Refused g) p q =
-    (ap located.Refused (refuse-one f g (gives-one (locateRules m k b s) _ _ (p .told) (q .told))), p .kept refl ∙ sym (q .kept refl))
+unfolding MendsOne
+mends-one m k b s x y r q p h = let (column, left) = mends-alike m k b s r q p h in (answered m k b s _ _ (p .told) (h .told), column, left)
 
 -- ---- show
 

@@ -1,6 +1,6 @@
 -- What follows from the promises alone, from end to end: the statements of specs/EndToEnd.
 use mathlib.Core.Path.{_≡_, refl, sym, ap, _∙_}
-use mathlib.Core.Logic.{_≢_, inl, inr, by-cases}
+use mathlib.Core.Logic.{_≢_, _↔_, _⊎_, inl, inr, by-cases}
 use mathlib.Core.Bool.{Bool, true, false, cond}
 use mathlib.Core.List.{List, [], _∷_}
 use Prim.Native.Nat.{ℕ, _+_, _-_, _≤_, _<_}
@@ -9,36 +9,41 @@ use native.Mathlib.Omega.{arith}
 use lib.ListN.{length}
 use borrow.Author.Tests.{lt-ltb, eq-eqb, ne-eqb}
 use Rattle.parity.specs.Shape.{Shape, stripeLength}
-use Rattle.parity.specs.Stripe.{byte, Valid}
+use Rattle.parity.specs.Stripe.{byte, Valid, Blank, Intact}
 use Rattle.parity.specs.Presence.{present, absences, differs, differing, Agrees, AgreesBut}
-use Rattle.parity.specs.Theorems.{AtMostOne, NeverOne}
+use Rattle.parity.specs.Theorems.{AtMostOne, NeverOne, IntactOrBlank}
 use Rattle.parity.proofs.Bytes.{stripe-ext}
 use Rattle.parity.proofs.Columns.{same-column, column-same}
 use Rattle.parity.proofs.Count.{few-pass}
-use Rattle.parity.proofs.Theorems.{at-most-one, never-one}
+use Rattle.parity.proofs.Theorems.{at-most-one, never-one, blank-valid, intact-or-blank}
 use Rattle.inputs.specs.declared.shapes.Refusal.{Refusal}
 use Rattle.inputs.specs.declared.shapes.Refusal.the-variants.{Ambiguous, Contradicted, Unmendable}
 use Rattle.inputs.specs.Refusals.{numberOf, pass, refuse, Gives}
 use Rattle.inputs.specs.Absent.{absentBelow}
 use Rattle.inputs.specs.Rules.{tooManyAbsent, contradicted, unmendable, stripeRules, lentRules, gapRules, restoreRules}
 use Rattle.inputs.proofs.Absent.{absences-below, below-under, nth-one, absent-nth}
-use Rattle.inputs.proofs.Rules.{passes-not, refuse-one, gives-one, gives-first, gives-next, gives-after, gives-rest}
+use Rattle.inputs.proofs.Rules.{passes-not, refuse-one, gives-one, gives-first, gives-next, gives-after, gives-passed, gives-rest}
 use Rattle.inputs.proofs.Shape.{places-most}
 use Rattle.inputs.proofs.Stripe.{stripe-given, stripe-passed}
 use Rattle.inputs.proofs.Tests.{lent-passed, gaps-passed}
+use Rattle.evenodd.specs.declared.checks.Checked.the-variants as checked
 use Rattle.evenodd.specs.declared.locates.Located.{Located}
 use Rattle.evenodd.specs.declared.locates.Located.the-variants as located
 use Rattle.evenodd.specs.declared.restores.Restored.{Restored}
 use Rattle.evenodd.specs.declared.restores.Restored.the-variants as restored
 use Rattle.evenodd.specs.declared.rewrites.Rewritten.{Rewritten}
 use Rattle.evenodd.specs.declared.rewrites.Rewritten.the-variants as rewritten
-use Rattle.evenodd.specs.Locates.{locateRules, OneDiffers, Locates}
+use Rattle.evenodd.specs.Checks as checks
+use Rattle.evenodd.specs.Locates.{locateRules, columnOf, OneDiffers, Locates}
+use Rattle.evenodd.specs.Locates as locates
 use Rattle.evenodd.specs.Rewrites.{columnRules, rewriteRules, Rewrites}
 use Rattle.evenodd.specs.Rewrites as rewrites
 use Rattle.evenodd.specs.Restores.{verdictOf, RestoredFrom}
 use Rattle.evenodd.specs.Shows.{half}
-use Rattle.evenodd.specs.EndToEnd.{Fits, FitsAlone, Together, GivesTheOne, OneOrNothing, RestoreGivesBack, PairGivesBack, PairMends, NothingToRewrite, RewriteKeepsValid}
+use Rattle.evenodd.specs.Mends.{Mends}
+use Rattle.evenodd.specs.EndToEnd.{Fits, FitsAlone, Together, GivesTheOne, OneOrNothing, RestoreGivesBack, SameWords, PairGivesBack, PairMends, NothingToRewrite, RewriteKeepsValid}
 use Rattle.evenodd.proofs.Determined.{locate-passed}
+use Rattle.evenodd.proofs.Located.{valid-passes}
 use Rattle.evenodd.proofs.Rewritten.{between, agrees-self, one-but, rewrite-told}
 
 agrees-back : (m k b : ℕ) (map : List Bool) (s v : List ℕ) → Agrees m k b map s v → Agrees m k b map v s
@@ -48,7 +53,7 @@ agrees-back m k b map s v a = record { at = λ t ht p. column-same m b v s t (λ
 
 -- stripe and bench together are the stripe that the bench is of
 module _ {m k b : ℕ} {map : List Bool} {s before after : List ℕ} {n first second : ℕ} (few : absences k map ≤ 2) (u : RestoredFrom m k b map s before after n first second) where
-  together : Together m k b map s after (u .stripe)
+  pub together : Together m k b map s after (u .stripe)
   unfolding half
   together = record { at = λ l i t hl hi ht. go l i t hl hi ht (present map t) refl }
     where
@@ -179,7 +184,7 @@ rewrite-keeps-valid m k b column s after q h v hu p = rewrite-leaves m k b colum
 
 pub pair-gives-back : PairGivesBack
 unfolding PairGivesBack differing
-pair-gives-back m k b u fresh s wrong r enc st hu a p = (λ e. intact r p e, λ ne. record { named = named r p ne; rewritten = λ after q w. rewrite-leaves m k b u h hu wrong s after (st .whole) valid a q w })
+pair-gives-back m k b u fresh s wrong r enc st hu a p = (λ e. record { intact = intact r p e; blank = blank r p e }, λ ne. record { named = named r p ne; rewritten = λ after q w. rewrite-leaves m k b u h hu wrong s after (st .whole) valid a q w })
   where
     h : Shape m k b
     h = stripe-given m k b (length fresh) (enc .told) .0
@@ -216,31 +221,83 @@ pair-gives-back m k b u fresh s wrong r enc st hu a p = (λ e. intact r p e, λ 
         so true e = refl
         so false e = absurd (ne (same e))
 
-    intact : (r : Located) → Locates m k b wrong r → wrong ≡ s → r ≡ located.Intact
-    intact located.Intact p e = refl
-    intact (located.Column v) p e = p .found refl .intact .1 (rw e valid)
-    intact (located.Refused f) p e = absurd (passes f p)
+    intact : (r : Located) → Locates m k b wrong r → wrong ≡ s → (Blank m k b s → ⊥) → r ≡ located.Intact
+    intact located.Intact p e n = refl
+    intact located.Blank p e n = p .found refl .intact .1 (rw e (valid, n))
+    intact (located.Column v) p e n = p .found refl .intact .1 (rw e (valid, n))
+    intact (located.Refused f) p e n = absurd (passes f p)
+
+    blank : (r : Located) → Locates m k b wrong r → wrong ≡ s → Blank m k b s → r ≡ located.Blank
+    blank located.Intact p e z = p .found refl .blank .1 (rw e z)
+    blank located.Blank p e z = refl
+    blank (located.Column v) p e z = p .found refl .blank .1 (rw e z)
+    blank (located.Refused f) p e z = absurd (passes f p)
 
     named : (r : Located) → Locates m k b wrong r → wrong ≢ s → r ≡ located.Column u
     named located.Intact p ne = p .found refl .named u .1 (differ ne)
+    named located.Blank p ne = p .found refl .named u .1 (differ ne)
     named (located.Column v) p ne = p .found refl .named u .1 (differ ne)
     named (located.Refused f) p ne = absurd (passes f p)
 
+-- ---- intact and blank
+
+pub same-words : SameWords
+unfolding SameWords IntactOrBlank
+same-words m k b s r q st c p = (
+  (
+    λ e.
+        let i = c .counted (ap checks.verdictOf e) .intact .0 e in
+        let v = told .0 .1 (inl i) in
+        p .found (locate-passes (rw e at (c .told)) v) .intact .1 (v, told .1 i),
+    λ e. let (v, n) = p .found (ap locates.verdictOf e) .intact .0 e in c .counted (check-passes (rw e at (p .told))) .intact .1 (intact v n),
+  ),
+  (
+    λ e. let z = c .counted (ap checks.verdictOf e) .blank .0 e in p .found (locate-passes (rw e at (c .told)) (told .0 .1 (inr z))) .blank .1 z,
+    λ e. c .counted (check-passes (rw e at (p .told))) .blank .1 (p .found (ap locates.verdictOf e) .blank .0 e),
+  ),
+)
+  where
+    told : (Valid m k b s ↔ (Intact m k b s ⊎ Blank m k b s)) × (Intact m k b s → Blank m k b s → ⊥)
+    told = intact-or-blank m k b s st
+
+    intact : Valid m k b s → (Blank m k b s → ⊥) → Intact m k b s
+    intact v n = elim (told .0 .0 v) [ inl i ↦ i | inr z ↦ absurd (n z) ]
+
+    -- where one of the two passes a valid stripe, the other does
+    locate-passes : Gives (stripeRules m k b (length s)) pass → Valid m k b s → locates.verdictOf q ≡ pass
+    locate-passes g v = gives-one (locateRules m k b s) _ _ (p .told) (valid-passes m k b (stripe-given m k b (length s) g .0) s st (v .lanes))
+
+    check-passes : Gives (locateRules m k b s) pass → checks.verdictOf r ≡ pass
+    check-passes g = gives-one (stripeRules m k b (length s)) _ _ (c .told) (gives-passed (stripeRules m k b (length s)) (unmendable m k b s ∷ []) g .0)
+
 -- ---- what mend promised
+
+-- a stripe that is called intact or blank is valid, and stays as it is
+kept-mends : (m k b : ℕ) (before after : List ℕ) (r : Located) → Locates m k b before r → locates.verdictOf r ≡ pass → columnOf r ≡ 129 → ((u : ℕ) → r ≡ located.Column u → ⊥)
+    → Valid m k b before → after ≡ before → Mends m k b before after r
+kept-mends m k b before after r p passed none other v e = record {
+  told = p .told;
+  valid = λ _. rw e v;
+  differed = λ _. record {
+    at = λ t ht. rw (e, none) (column-same m b before before t (λ l i hl hi. refl)
+        ∙ sym (ne-eqb 129 t (λ x. omega (arith, places-most (locate-passed m k b before (rw passed at (p .told)) .0)))));
+  };
+  kept = λ _. e;
+  named = λ u x. absurd (other u x);
+}
 
 pub pair-mends : PairMends
 unfolding PairMends
 pair-mends m k b before after located.Intact q p =
-    let e = p .kept refl in
-    let v = p .looked .found refl .intact .0 refl in (
-      record {
-        told = p .looked .told;
-        valid = λ _. rw e v;
-        differed = λ _. record { at = λ t ht. rw e (column-same m b before before t (λ l i hl hi. refl)) ∙ sym (ne-eqb 129 t (λ x. omega (arith, places-most (locate-passed m k b before (p .looked .told) .0)))) };
-        kept = λ _. e;
-        named = λ u x. absurd (let z : _≡_ {A = ℕ} 0 1 = cc in omega arith);
-      },
-      λ u x. absurd (let z : _≡_ {A = ℕ} 0 1 = cc in omega arith),
+    let other : (u : ℕ) → located.Intact ≡ located.Column u → ⊥ = λ u x. let z : _≡_ {A = ℕ} 0 1 = cc in omega arith in
+    (kept-mends m k b before after located.Intact (p .looked) refl refl other (p .looked .found refl .intact .0 refl .0) (p .kept refl), λ u x. absurd (other u x))
+pair-mends m k b before after located.Blank q p =
+    let other : (u : ℕ) → located.Blank ≡ located.Column u → ⊥ = λ u x. let z : _≡_ {A = ℕ} 0 1 = cc in omega arith in
+    let z = p .looked .found refl .blank .0 refl in
+    let (shape, whole) = locate-passed m k b before (p .looked .told) in (
+      kept-mends m k b before after located.Blank (p .looked) refl refl other
+          (blank-valid m k b before shape whole z) (p .kept refl),
+      λ u x. absurd (other u x),
     )
 pair-mends m k b before after (located.Column u) q p =
     let h = locate-passed m k b before (p .looked .told) .0 in

@@ -2,7 +2,7 @@
 -- Of a part that show hands out, the place and the bytes are determined: `SamePart`. The name under which the logic follows a reference is no part
 -- of the answer.
 --   EncodesOne, ChecksOne, RestoresOne, LocatesOne, RewritesOne, PlacesOne, ShowsOne    the promise of each call
---   MendsOne                     what mend promised, which no call promises
+--   MendsOne                     what mend promised, which no call promises: of the answer the number and the column, since mend did not tell blank from intact
 --   RestoresUnread               what stands in an absent column's place alters neither restore's answer nor the bench
 --   RewritesUnread               what stands in the column that is named alters neither rewrite's answer nor what it leaves
 --   PlacesUnread, ShowsUnread    no byte of stripe or bench alters where a column is shown: their lengths alone are asked
@@ -21,7 +21,7 @@ use Rattle.evenodd.specs.declared.restores.Restored.{Restored}
 use Rattle.evenodd.specs.declared.rewrites.Rewritten.{Rewritten}
 use Rattle.evenodd.specs.declared.rewrites.Rewritten.the-variants.{Done, Refused}
 use Rattle.evenodd.specs.Restores.{Restores}
-use Rattle.evenodd.specs.Locates.{Locates}
+use Rattle.evenodd.specs.Locates.{verdictOf, columnOf, Locates}
 use Rattle.evenodd.specs.Rewrites.{Rewrites}
 use Rattle.evenodd.specs.Mends.{Mends}
 use denote.Ref.{RefT, now}
@@ -58,7 +58,8 @@ RewritesUnread = (m k b column : ℕ) (s other x : List ℕ) (r : Rewritten) →
     → Rewrites m k b column other (leftOf r x other) r
 
 unfoldable pub MendsOne : Type 0
-MendsOne = (m k b : ℕ) (s x y : List ℕ) (r q : Located) → Mends m k b s x r → Mends m k b s y q → (r ≡ q) × (x ≡ y)
+MendsOne = (m k b : ℕ) (s x y : List ℕ) (r q : Located) → Mends m k b s x r → Mends m k b s y q
+    → (verdictOf r ≡ verdictOf q) × (columnOf r ≡ columnOf q) × (x ≡ y)
 
 unfoldable pub PlacesOne : Type 0
 PlacesOne = (m k b : ℕ) (map : Map) (s bench : List ℕ) (column : ℕ) (r q : Place)

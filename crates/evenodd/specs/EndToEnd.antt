@@ -2,8 +2,9 @@
 --   OneOrNothing       if exactly one valid stripe agrees with the columns that are present, restore gives it: stripe and bench together are that one.
 --                      Otherwise it gives nothing, and says why: 4 exactly when two different ones agree, 5 exactly when none does
 --   RestoreGivesBack   encode, lose at most two columns, whatever stands in their places: restore gives them back
+--   SameWords          check and locate call the same stripes intact, and the same ones blank
 --   PairGivesBack      encode, change one column in any way, or in none: locate names it if it was changed, and rewrite of it gives the stripe back; if
---                      none was changed locate says intact
+--                      none was changed locate says intact, or blank where every byte is zero
 --   PairMends          locate, and then rewrite of the column that it names, keep what mend promised: that rewrite passes, and leaves what mend left
 --   NothingToRewrite   where locate gives 6, rewrite of any column gives 5: there is nothing to rewrite
 --   RewriteKeepsValid  a valid stripe of which any column is rewritten stays as it is
@@ -14,7 +15,7 @@ use mathlib.Core.List.{List}
 use Prim.Native.Nat.{ℕ, _+_, _-_, _≤_, _<_}
 use lib.ListN.{length}
 use Rattle.parity.specs.Shape.{Shape, benchLength}
-use Rattle.parity.specs.Stripe.{byte, Stripe, Valid}
+use Rattle.parity.specs.Stripe.{byte, Stripe, Valid, Blank}
 use Rattle.parity.specs.Presence.{present, absences, Agrees, AgreesBut}
 use Rattle.inputs.specs.declared.maps.Map.{Map}
 use Rattle.inputs.specs.declared.shapes.Refusal.{Refusal}
@@ -22,6 +23,8 @@ use Rattle.inputs.specs.declared.shapes.Refusal.the-variants.{Ambiguous, Contra
 use Rattle.inputs.specs.Refusals.{pass}
 use Rattle.inputs.specs.Absent.{Stray}
 use Rattle.inputs.specs.Truth.{TrueMap}
+use Rattle.evenodd.specs.declared.checks.Checked.{Checked}
+use Rattle.evenodd.specs.declared.checks.Checked.the-variants as checked
 use Rattle.evenodd.specs.declared.encodes.Encoded.the-variants as encoded
 use Rattle.evenodd.specs.declared.locates.Located.{Located}
 use Rattle.evenodd.specs.declared.locates.Located.the-variants as located
@@ -30,6 +33,7 @@ use Rattle.evenodd.specs.declared.restores.Restored.the-variants as rest
 use Rattle.evenodd.specs.declared.rewrites.Rewritten.{Rewritten}
 use Rattle.evenodd.specs.declared.rewrites.Rewritten.the-variants as rewritten
 use Rattle.evenodd.specs.Encodes.{Encodes}
+use Rattle.evenodd.specs.Checks.{Checks}
 use Rattle.evenodd.specs.Restores.{verdictOf, countOf, firstOf, secondOf, Benched, Restores}
 use Rattle.evenodd.specs.Locates.{Locates}
 use Rattle.evenodd.specs.Rewrites.{Rewrites}
@@ -92,6 +96,15 @@ RestoreGivesBack = (m k b : ℕ) (map : Map) (fresh s lost before after : List �
     → length lost ≡ length s → Agrees m k b (map .places) s lost → length before ≡ benchLength m b → TrueMap map → (Stray k (map .places) → ⊥) → absences k (map .places) ≤ 2
     → Restores m k b map lost before after r → GivenBack m b s before after r
 
+unfoldable pub SameWords : Type 0
+SameWords = (m k b : ℕ) (s : List ℕ) (r : Checked) (q : Located) → Stripe m k b s → Checks m k b s r → Locates m k b s q
+    → ((r ≡ checked.Intact) ↔ (q ≡ located.Intact)) × ((r ≡ checked.Blank) ↔ (q ≡ located.Blank))
+
+-- r says that nothing is wrong with s
+pub record NothingWrong (m k b : ℕ) (s : List ℕ) (r : Located) : Type 0 where
+  pub intact : (Blank m k b s → ⊥) → r ≡ located.Intact
+  pub blank : Blank m k b s → r ≡ located.Blank
+
 -- r names column u, and rewrite of it, whatever it answers and leaves, is done and leaves s
 pub record NamedAndRewritten (m k b u : ℕ) (wrong s : List ℕ) (r : Located) : Type 0 where
   pub named : r ≡ located.Column u
@@ -100,7 +113,7 @@ pub record NamedAndRewritten (m k b u : ℕ) (wrong s : List ℕ) (r : Located) 
 unfoldable pub PairGivesBack : Type 0
 PairGivesBack = (m k b u : ℕ) (fresh s wrong : List ℕ) (r : Located) → Encodes m k b fresh s encoded.Done
     → Stripe m k b wrong → u < k + 2 → AgreesBut m k b u wrong s
-    → Locates m k b wrong r → (wrong ≡ s → r ≡ located.Intact) × (wrong ≢ s → NamedAndRewritten m k b u wrong s r)
+    → Locates m k b wrong r → (wrong ≡ s → NothingWrong m k b s r) × (wrong ≢ s → NamedAndRewritten m k b u wrong s r)
 
 unfoldable pub PairMends : Type 0
 PairMends = (m k b : ℕ) (before after : List ℕ) (r : Located) (q : Rewritten) → Pair m k b before after r q

@@ -1,8 +1,9 @@
--- What locate answers. It reads only, and its promise speaks of valid stripes alone.
+-- What locate answers. It reads only, and its promise speaks of valid stripes, and of blank ones, which are valid too.
 --   locateRules   1, 12, 13, 2, 6
 --   verdictOf, foundOf, columnOf   the verdict of an answer; the number of what was found; the column that is named, 129 for none
 --   OneDiffers    some valid stripe differs from s in exactly column u
---   Found         the stripe is called intact exactly when it is valid, and column u is named exactly when `OneDiffers` holds of it
+--   Found         the stripe is called blank exactly when every byte is zero, and intact exactly when it is valid and not blank; column u is named
+--                 exactly when `OneDiffers` holds of it
 --   Locates       refused by `locateRules`; passed: `Found`
 use mathlib.Core.Path.{_≡_}
 use mathlib.Core.Logic.{_↔_}
@@ -10,10 +11,10 @@ use mathlib.Core.List.{List, [], _∷_, _++_}
 use Prim.Native.Nat.{ℕ, _+_, _<_}
 use lib.Dec.{eqb}
 use lib.ListN.{length}
-use Rattle.parity.specs.Stripe.{Valid}
+use Rattle.parity.specs.Stripe.{Valid, Blank}
 use Rattle.parity.specs.Presence.{DifferIn}
 use Rattle.evenodd.specs.declared.locates.Located.{Located}
-use Rattle.evenodd.specs.declared.locates.Located.the-variants.{Intact, Column, Refused}
+use Rattle.evenodd.specs.declared.locates.Located.the-variants as located
 use Rattle.inputs.specs.Refusals.{Verdict, pass, refuse, Rule, Gives}
 use Rattle.inputs.specs.Rules.{unmendable, stripeRules}
 
@@ -21,20 +22,23 @@ abbrev pub locateRules : ℕ → ℕ → ℕ → List ℕ → List Rule
 locateRules m k b s = stripeRules m k b (length s) ++ (unmendable m k b s ∷ [])
 
 abbrev pub verdictOf : Located → Verdict
-verdictOf Intact = pass
-verdictOf (Column u) = pass
-verdictOf (Refused r) = refuse r
+verdictOf located.Intact = pass
+verdictOf located.Blank = pass
+verdictOf (located.Column u) = pass
+verdictOf (located.Refused r) = refuse r
 
--- 2 and 3 are kept for a blank stripe and a broken one
+-- check, which names no column, has 3 for a broken stripe
 abbrev pub foundOf : Located → ℕ
-foundOf (Refused r) = 0
-foundOf Intact = 1
-foundOf (Column u) = 4
+foundOf (located.Refused r) = 0
+foundOf located.Intact = 1
+foundOf located.Blank = 2
+foundOf (located.Column u) = 4
 
 abbrev pub columnOf : Located → ℕ
-columnOf (Refused r) = 129
-columnOf Intact = 129
-columnOf (Column u) = u
+columnOf (located.Refused r) = 129
+columnOf located.Intact = 129
+columnOf located.Blank = 129
+columnOf (located.Column u) = u
 
 pub record OneDiffers (m k b : ℕ) (s : List ℕ) (u : ℕ) : Type 0 where
   pub inside : u < k + 2
@@ -43,8 +47,9 @@ pub record OneDiffers (m k b : ℕ) (s : List ℕ) (u : ℕ) : Type 0 where
   pub differ : DifferIn m k b (eqb u) s other
 
 pub record Found (m k b : ℕ) (s : List ℕ) (r : Located) : Type 0 where
-  pub intact : (r ≡ Intact) ↔ Valid m k b s
-  pub named : (u : ℕ) → (r ≡ Column u) ↔ OneDiffers m k b s u
+  pub intact : (r ≡ located.Intact) ↔ (Valid m k b s × (Blank m k b s → ⊥))
+  pub blank : (r ≡ located.Blank) ↔ Blank m k b s
+  pub named : (u : ℕ) → (r ≡ located.Column u) ↔ OneDiffers m k b s u
 
 pub record Locates (m k b : ℕ) (s : List ℕ) (r : Located) : Type 0 where
   pub told : Gives (locateRules m k b s) (verdictOf r)

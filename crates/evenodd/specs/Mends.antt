@@ -1,6 +1,6 @@
 -- What mend answered and left, when locating and rewriting were one call. No call has this promise; locate and rewrite in sequence keep it (`PairMends`).
 --   Mends      refused as locate is; passed: the stripe is now a valid one, and differed from it in exactly the column that is named. Where none is
---              named, the stripe being intact or refused, nothing is written.
+--              named, the stripe being intact, blank or refused, nothing is written.
 --   Pair       locate, and then rewrite of the column that it names, if any
 use mathlib.Core.Path.{_≡_}
 use mathlib.Core.List.{List}

@@ -1,5 +1,6 @@
 // Stripes kept in the EVENODD code: encode, check, restore, locate, rewrite and show. Nothing here asks anything of its caller: bad input is
 // refused by number, and a refused call changes no byte that was lent. Shapes, maps and refusals are handed on from `inputs`.
+mod blank;
 mod checks;
 mod encodes;
 mod locates;

@@ -1,4 +1,5 @@
 // Locate.
+use crate::blank::is_blank;
 use inputs::Judged;
 use inputs::Refusal;
 use inputs::judge_stripe;
@@ -7,21 +8,23 @@ use locating::Suspect;
 ghost use mathlib.Core.Path.{_≡_};
 ghost use Rattle.evenodd.specs.Locates.{Locates, foundOf, columnOf};
 
-// What locate answers: the stripe is intact, or the one column that is wrong; or why not.
+// What locate answers: the stripe is intact, or blank, or the one column that is wrong; or why not.
 pub enum Located {
     Intact,
+    Blank,
     Column(usize),
     Refused(Refusal),
 }
 
 impl Located {
-    // What was found, by number: 1 for an intact stripe, 4 for a column, 0 for a refusal.
+    // What was found, by number: 1 for an intact stripe, 2 for a blank one, 4 for a column, 0 for a refusal.
     pub fn found(self) -> u8
         ensures { λ r. ⌜ r ≡ foundOf self ⌝ }
     {
         match self {
             Located::Refused(_) => 0,
             Located::Intact => 1,
+            Located::Blank => 2,
             Located::Column(_) => 4,
         }
     }
@@ -33,13 +36,14 @@ impl Located {
         match self {
             Located::Refused(_) => 129,
             Located::Intact => 129,
+            Located::Blank => 129,
             Located::Column(u) => u,
         }
     }
 }
 
-// Takes a stripe with every column present, and says which one is wrong: none, where the stripe is valid; the one in which alone a valid stripe differs
-// from it. Nothing is written.
+// Takes a stripe with every column present, and says which one is wrong: none, where the stripe is valid, which is blank or intact; the one in which alone a
+// valid stripe differs from it. Nothing is written.
 pub fn locate(m: usize, k: usize, b: usize, stripe: &[u8]) -> Located
     ensures { λ r. ⌜ Locates m k b (now (stripe .entry)) r ⌝ }
 {
@@ -47,6 +51,9 @@ pub fn locate(m: usize, k: usize, b: usize, stripe: &[u8]) -> Located
     let Judged::Good { column } = judged else {
         return Located::Refused(judged.refusal());
     };
+    if is_blank(stripe, k * column) {
+        return Located::Blank;
+    }
     match locating::locate(stripe, Grid { m, k, b, column }) {
         Suspect::Nothing => Located::Intact,
         Suspect::Nobody => Located::Refused(Refusal::Unmendable),

@@ -15,7 +15,7 @@ use Rattle.parity.specs.Stripe.{lane}
 use Rattle.parity.proofs.Xor.{zero-⊕}
 use Rattle.parity.proofs.Candidate.{row-amount}
 use Rattle.parity.proofs.Suspects.{hold-h}
-use Rattle.cells.specs.Runs.{Put}
+use Rattle.cells.specs.Runs.{Put, First}
 use Rattle.cells.proofs.Parts.{part, part-at, by-order}
 use Rattle.cells.proofs.Puts.{put-same}
 use Rattle.lines.specs.declared.Columns.{Columns}
@@ -25,7 +25,7 @@ use Rattle.lines.specs.Rows.{Room}
 use Rattle.lines.proofs.Places.{part-length}
 use Rattle.sums.specs.Sums.{windowOf, OneLine}
 use Rattle.counting.proofs.Buts.{window-row, but-row}
-use Rattle.locating.specs.Locating.{RowBreaks, First}
+use Rattle.locating.specs.Locating.{RowBreaks}
 
 -- all data columns
 abbrev every : Grid → Columns

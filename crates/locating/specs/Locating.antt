@@ -7,7 +7,6 @@
 -- In parts:
 --   Searched g s            a stripe in which that column can be looked for
 --   RowBreaks g s i         row i of the stripe s breaks
---   First r n f             r is the first number below n at which f is not zero; n where there is none
 --   OfLane g s n l          lane l of the stripe s, and room of n bytes for a column of it and its imaginary row
 --   Summed m a n h d        h and d are the rows and the diagonals of lane a, the imaginary row and diagonal m - 1 too, over the first n columns
 --   BreaksBy m k a h d      h and d are the amounts that the rows and the diagonals of lane a break by
@@ -53,11 +52,6 @@ pub record Searched (g : Grid) (s : List ℕ) : Type 0 where
 pub record RowBreaks (g : Grid) (s : List ℕ) (i : ℕ) : Type 0 where
   pub inside : i < g .m - 1
   pub there : ((l : ℕ) → l < g .b → amountH (g .m) (g .k) (lane (g .m) (g .b) s l) i ≡ 0) → ⊥
-
-pub record First (r n : ℕ) (f : ℕ → ℕ) : Type 0 where
-  pub within : r ≤ n
-  pub before : (l : ℕ) → l < r → f l ≡ 0
-  pub there : r < n → f r ≡ 0 → ⊥
 
 pub record OfLane (g : Grid) (s : List ℕ) (n l : ℕ) : Type 0 where
   pub laid : Laid g s

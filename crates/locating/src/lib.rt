@@ -7,12 +7,13 @@ use amounts::find_amounts;
 pub use confirming::locate;
 use lines::Grid;
 ghost use mathlib.Core.Path.{_≡_};
-ghost use Prim.Native.Nat.{ℕ, _-_, _≤_, _<_};
+ghost use Prim.Native.Nat.{_-_, _≤_, _<_};
 ghost use lib.ListN.{length, getD};
 ghost use Rattle.parity.specs.Equations.{Holds, amountH};
 ghost use Rattle.parity.specs.Stripe.{lane};
+ghost use Rattle.cells.specs.Runs.{First};
 ghost use Rattle.lines.specs.Lines.{Laid};
-ghost use Rattle.locating.specs.Locating.{Suspects, Searched, First, Amounts, Some, TurnedAmounts, Whether, Blames, RowBreaks, OfLane, Summed};
+ghost use Rattle.locating.specs.Locating.{Suspects, Searched, Amounts, Some, TurnedAmounts, Whether, Blames, RowBreaks, OfLane, Summed};
 
 // The column that can be the wrong one, if any is wrong.
 pub enum Suspect {
@@ -87,32 +88,6 @@ fn judge_lane(s: &[u8], g: Grid, l: usize) -> Suspect
     compare_amounts(&mut x[0..m], &mut h[0..m], &mut d[0..m], s, g, l)
 }
 
-// A place in x before which all bytes are zero, found in steps of 64 bytes: where they are not, or where fewer are left.
-fn skip_zeros(x: &[u8]) -> usize
-    ensures { λ r. ⌜ (r ≤ length (now (x .entry))) × ((l : ℕ) → l < r → getD (now (x .entry)) l 0 ≡ 0) ⌝ }
-{
-    let mut j: usize = 0;
-    while 64 <= x.len() - j {
-        if cells::any(&x[j..j + 64]) != 0 {
-            return j;
-        }
-        j += 64;
-    }
-    j
-}
-
-// The place of the first byte of x that is not zero; x's length where there is none.
-fn find_set(x: &[u8]) -> usize
-    ensures { λ r. ⌜ First r (length (now (x .entry))) (λ l. getD (now (x .entry)) l 0) ⌝ }
-{
-    for j in skip_zeros(x)..x.len() {
-        if x[j] != 0 {
-            return j;
-        }
-    }
-    x.len()
-}
-
 // The first lane at which row i breaks; b where there is none.
 fn find_lane(s: &[u8], g: Grid, i: usize) -> usize
     requires { ⌜ Laid g (now s) × (i < g .m - 1) ⌝ }
@@ -122,7 +97,7 @@ fn find_lane(s: &[u8], g: Grid, i: usize) -> usize
     let mut room = [0u8; 4096];
     // What the sum begins with, at the end of the room, is nothing.
     sums::sum_line(&mut room, 4096, s, g, 0, i, lines::all_but(g, 129, 129), 0);
-    find_set(&room[0..b])
+    cells::find_set(&room[0..b])
 }
 
 // The column that can be the wrong one of a stripe whose row i breaks; Nobody where no column alone can. It is judged by one lane at which the row

@@ -30,9 +30,9 @@ encode-gives-one m k b s after after′ r r′ p q =
 
 pub check-gives-one : CheckGivesOne
 unfolding CheckGivesOne ChecksOne
-check-gives-one m k b s x y r x′ y′ r′ p q =
+check-gives-one m k b s x y z r x′ y′ z′ r′ p q =
     let e = checks-one m k b s (p .answer) (q .answer) (p .meets) (q .meets) in
-    (cc, cc, cc)
+    (cc, cc, cc, cc)
 
 pub restore-gives-one : RestoreGivesOne
 unfolding RestoreGivesOne RestoresOne OfBytesOne
@@ -108,8 +108,8 @@ never-lying = (encoded, checked, located, rewritten, said, taken, restored, show
     encoded : (m k b : ℕ) (s after : List ℕ) (r : ℕ) → EncodeGives m k b s after r → r ≢ 17
     encoded m k b s after r p e = never-number 17 (stripeRules m k b (length s)) _ (omega arith) (λ q. absurd (omega arith), (λ q. absurd (omega arith), (λ q. absurd (omega arith), (λ q. absurd (omega arith), tt)))) (p .meets .told) (sym (p .number) ∙ e)
 
-    checked : (m k b : ℕ) (s : List ℕ) (x y r : ℕ) → CheckGives m k b s x y r → r ≢ 17
-    checked m k b s x y r p e = never-number 17 (stripeRules m k b (length s)) _ (omega arith) (λ q. absurd (omega arith), (λ q. absurd (omega arith), (λ q. absurd (omega arith), (λ q. absurd (omega arith), tt)))) (p .meets .told) (sym (p .number) ∙ e)
+    checked : (m k b : ℕ) (s : List ℕ) (x y z r : ℕ) → CheckGives m k b s x y z r → r ≢ 17
+    checked m k b s x y z r p e = never-number 17 (stripeRules m k b (length s)) _ (omega arith) (λ q. absurd (omega arith), (λ q. absurd (omega arith), (λ q. absurd (omega arith), (λ q. absurd (omega arith), tt)))) (p .meets .told) (sym (p .number) ∙ e)
 
     located : (m k b : ℕ) (s : List ℕ) (x y r : ℕ) → LocateGives m k b s x y r → r ≢ 17
     located m k b s x y r p e = never-number 17 (locateRules m k b s) _ (omega arith) (λ q. absurd (omega arith), (λ q. absurd (omega arith), (λ q. absurd (omega arith), (λ q. absurd (omega arith), (λ q. absurd (omega arith), tt))))) (p .meets .told) (sym (p .number) ∙ e)

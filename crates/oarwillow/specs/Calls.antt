@@ -25,7 +25,7 @@ use Rattle.evenodd.specs.Checks.{Checks, rowsOf, diagonalsOf}
 use Rattle.evenodd.specs.Checks as checks
 use Rattle.evenodd.specs.Restores.{Restores, countOf, firstOf, secondOf}
 use Rattle.evenodd.specs.Restores as restores
-use Rattle.evenodd.specs.Locates.{Locates, foundOf, columnOf}
+use Rattle.evenodd.specs.Locates.{Locates, columnOf}
 use Rattle.evenodd.specs.Locates as locates
 use Rattle.evenodd.specs.Rewrites.{Rewrites}
 use Rattle.evenodd.specs.Rewrites as rewrites
@@ -40,11 +40,12 @@ pub record EncodeGives (m k b : ℕ) (before after : List ℕ) (r : ℕ) : Type 
   pub meets : Encodes m k b before after answer
   pub number : r ≡ answerNumber (encodes.verdictOf answer)
 
-pub record CheckGives (m k b : ℕ) (s : List ℕ) (x y r : ℕ) : Type 0 where
+pub record CheckGives (m k b : ℕ) (s : List ℕ) (x y z r : ℕ) : Type 0 where
   pub answer : Checked
   pub meets : Checks m k b s answer
   pub rows : x ≡ rowsOf answer
   pub diagonals : y ≡ diagonalsOf answer
+  pub found : z ≡ checks.foundOf answer
   pub number : r ≡ answerNumber (checks.verdictOf answer)
 
 pub record RestoreGives (m k b : ℕ) (places s before after : List ℕ) (n x y r : ℕ) : Type 0 where
@@ -60,7 +61,7 @@ pub record RestoreGives (m k b : ℕ) (places s before after : List ℕ) (n x y 
 pub record LocateGives (m k b : ℕ) (s : List ℕ) (x y r : ℕ) : Type 0 where
   pub answer : Located
   pub meets : Locates m k b s answer
-  pub found : x ≡ foundOf answer
+  pub found : x ≡ locates.foundOf answer
   pub column : y ≡ columnOf answer
   pub number : r ≡ answerNumber (locates.verdictOf answer)
 

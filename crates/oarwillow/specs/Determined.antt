@@ -11,7 +11,8 @@ unfoldable pub EncodeGivesOne : Type 0
 EncodeGivesOne = (m k b : ℕ) (s after after′ : List ℕ) (r r′ : ℕ) → EncodeGives m k b s after r → EncodeGives m k b s after′ r′ → (after ≡ after′) × (r ≡ r′)
 
 unfoldable pub CheckGivesOne : Type 0
-CheckGivesOne = (m k b : ℕ) (s : List ℕ) (x y r x′ y′ r′ : ℕ) → CheckGives m k b s x y r → CheckGives m k b s x′ y′ r′ → (x ≡ x′) × (y ≡ y′) × (r ≡ r′)
+CheckGivesOne = (m k b : ℕ) (s : List ℕ) (x y z r x′ y′ z′ r′ : ℕ) → CheckGives m k b s x y z r → CheckGives m k b s x′ y′ z′ r′
+    → (x ≡ x′) × (y ≡ y′) × (z ≡ z′) × (r ≡ r′)
 
 unfoldable pub RestoreGivesOne : Type 0
 RestoreGivesOne = (m k b : ℕ) (places s bench after : List ℕ) (n x y r : ℕ) (after′ : List ℕ) (n′ x′ y′ r′ : ℕ)
@@ -52,7 +53,7 @@ BenchLengthGivesOne = (m b r r′ : ℕ) → BenchLengthGives m b r → BenchLen
 unfoldable pub NeverLying : Type 0
 NeverLying =
     ((m k b : ℕ) (s after : List ℕ) (r : ℕ) → EncodeGives m k b s after r → r ≢ 17)
-    × ((m k b : ℕ) (s : List ℕ) (x y r : ℕ) → CheckGives m k b s x y r → r ≢ 17)
+    × ((m k b : ℕ) (s : List ℕ) (x y z r : ℕ) → CheckGives m k b s x y z r → r ≢ 17)
     × ((m k b : ℕ) (s : List ℕ) (x y r : ℕ) → LocateGives m k b s x y r → r ≢ 17)
     × ((m k b : ℕ) (s after : List ℕ) (column r : ℕ) → RewriteGives m k b s after column r → r ≢ 17)
     × ((image places : List ℕ) (x y z r : ℕ) → ContentsGives image places x y z r → r ≢ 17)

@@ -25,7 +25,7 @@ pub extern "C" fn oarwillow_encode(m: usize, k: usize, b: usize, stripe: &mut [u
     }
 }
 
-// Counts the rows whose H equation breaks and the numbers whose D equation breaks.
+// Counts the rows whose H equation breaks and the numbers whose D equation breaks, and tells a blank stripe from an intact one.
 #[no_mangle]
 pub extern "C" fn oarwillow_check(
     m: usize,
@@ -34,13 +34,17 @@ pub extern "C" fn oarwillow_check(
     stripe: &[u8],
     rows: &mut usize,
     diagonals: &mut usize,
+    found: &mut u8,
 ) -> u8
-    ensures { λ r. ⌜ CheckGives m k b (now (stripe .entry)) (now (rows .exit)) (now (diagonals .exit)) r ⌝ }
+    ensures { λ r. ⌜ CheckGives m k b (now (stripe .entry)) (now (rows .exit)) (now (diagonals .exit)) (now (found .exit)) r ⌝ }
 {
     *rows = 0;
     *diagonals = 0;
-    match evenodd::check(m, k, b, stripe) {
+    let answer = evenodd::check(m, k, b, stripe);
+    *found = answer.found();
+    match answer {
         Checked::Intact => 0,
+        Checked::Blank => 0,
         Checked::Broken {
             rows: x,
             diagonals: y,
@@ -104,6 +108,7 @@ pub extern "C" fn oarwillow_locate(
     *column = answer.column();
     match answer {
         Located::Intact => 0,
+        Located::Blank => 0,
         Located::Column(_) => 0,
         Located::Refused(r) => r.number(),
     }

@@ -2,23 +2,27 @@
 --   place-lt, place-of      the place of a byte lies in the stripe, and each place in it is one of a byte
 --   byte-at, row-at         the byte at a place in a column, and its row
 --   stripe-ext              two stripes with the same bytes are one
+--   each-place              what holds of every byte of a stripe holds at every place in it
 --   build m k b f           the stripe whose lane l is f l
+--   zeros-past, zeros-blank   zeros, past their end too; and they are a blank stripe
 --   holds-byte              a lane's last eight bits obey the equations that the lane obeys
-use mathlib.Core.Path.{_≡_, refl, sym, ap, ap₂, _∙_}
+use mathlib.Core.Path.{_≡_, refl, sym, ap, ap₂, subst, _∙_}
+use mathlib.Core.Logic.{by-cases}
 use mathlib.Core.Bool.{Bool, true, false, cond}
 use mathlib.Core.List.{List, [], _∷_}
 use Prim.Native.Nat.{ℕ, zero, suc, _+_, _-_, _*_, _/_, _%_, _<_}
 use native.Mathlib.Nat.{div-add-mod', mod-lt, mul-pos, div-lt-iff-lt-mul, le-of-suc-le-suc, not-suc-le-zero}
+use native.Mathlib.Decide.{decLt}
 use native.Mathlib.Omega.{arith}
 use lib.Dec.{ltb}
 use lib.Arith.{digits-div, digits-mod, digits-lt}
-use lib.ListN.{length, getD}
+use lib.ListN.{length, getD, List·getD-eq-default}
 use lib.Seq.{ext-getD}
 use Rattle.parity.specs.Xor.{_⊕_}
 use Rattle.parity.specs.Sum.{sum}
 use Rattle.parity.specs.Shape.{columnLength, stripeLength}
 use Rattle.parity.specs.Equations.{Lane, cell, back, H, S, D, Holds}
-use Rattle.parity.specs.Stripe.{byte, Stripe}
+use Rattle.parity.specs.Stripe.{byte, Stripe, Blank}
 use Rattle.parity.proofs.Xor.{⊕-byte}
 use Rattle.parity.proofs.Sum.{sum-cong}
 
@@ -37,6 +41,15 @@ unfolding tab
 getD-tab zero f i l = absurd (not-suc-le-zero l)
 getD-tab (suc n) f zero l = refl
 getD-tab (suc n) f (suc i) l = getD-tab n (λ i. f (suc i)) i (le-of-suc-le-suc l)
+
+-- past the end of a list of zeros there is no other number either
+pub zeros-past : (s : List ℕ) → ((x : ℕ) → x < length s → getD s x 0 ≡ 0) → (x : ℕ) → getD s x 0 ≡ 0
+zeros-past s z x = by-cases (decLt x (length s)) (λ l. z x l) (λ l. List·getD-eq-default s 0 {n = x} (omega arith))
+
+-- a list with no other number than zero is blank
+pub zeros-blank : (m k b : ℕ) (s : List ℕ) → ((x : ℕ) → getD s x 0 ≡ 0) → Blank m k b s
+unfolding byte
+zeros-blank m k b s z = record { zeros = λ l i t hl hi ht. z _ }
 
 -- what holds of 0 and of each f i holds of each entry, and past the end
 tab-each : (P : ℕ → Type 0) → P 0 → (n : ℕ) (f : ℕ → ℕ) → ((i : ℕ) → P (f i)) → (x : ℕ) → P (getD (tab n f) x 0)
@@ -83,6 +96,12 @@ module _ (m k b : ℕ) where
         sym (place-of s x)
         ∙ same (x % columnLength m b % b) (x % columnLength m b / b) (x / columnLength m b) (mod-lt _ full) (row-lt x) (column-lt x (rw ls at l))
         ∙ place-of r x)
+
+    -- what holds of every byte, told by lane, row and column, holds of every place
+    pub each-place : (P : ℕ → Type 0) (s : List ℕ) → length s ≡ stripeLength m k b
+        → ((l i t : ℕ) → l < b → i < m - 1 → t < k + 2 → P (byte m b s l i t)) → (x : ℕ) → x < length s → P (getD s x 0)
+    each-place P s ls each x l =
+        subst P (place-of s x) (each (x % columnLength m b % b) (x % columnLength m b / b) (x / columnLength m b) (mod-lt _ full) (row-lt x) (column-lt x (rw ls at l)))
 
 pub build : ℕ → ℕ → ℕ → (ℕ → Lane) → List ℕ
 build m k b f = tab (stripeLength m k b) (λ x. f (x % columnLength m b % b) (x % columnLength m b / b) (x / columnLength m b))

@@ -1,4 +1,4 @@
--- The numbers C1 to C11, and one more. Each claim has a test, the tests of all the claims are computed at once, and a claim whose test passes is true.
+-- The numbers C1 to C11, and two more. Each claim has a test, the tests of all the claims are computed at once, and a claim whose test passes is true.
 -- Where a claim is about every valid stripe, its test is of the candidates, the only stripes that could be valid.
 --   shape? … unlike?   tests, and their meanings: shape-sound … unlike-sound
 --   test, tests        the test of a claim, and of a list of claims
@@ -22,9 +22,10 @@ use Rattle.parity.specs.Equations.{cell, back, H, S, D, amountH, amountD
 use Rattle.parity.specs.Stripe.{byte, lane, Valid, brokenRows, brokenDiagonals}
 use Rattle.parity.specs.Presence.{present, absences, differs, differing, Agrees}
 use Rattle.parity.specs.Theorems.{Table, AtMostOne}
-use Rattle.parity.specs.Numbers.{Claim, valid, special, agreeing, contradicted, ambiguous, counted, wrong, unmendable, intact, Means, All, numbers, Numbers}
+use Rattle.parity.specs.Numbers.{Claim, valid, special, agreeing, contradicted, ambiguous, counted, wrong, unmendable, intact, blank, Means, All, numbers, Numbers}
 use Rattle.parity.specs.Candidate.{candidate}
 use Rattle.parity.proofs.Count.{one-pass}
+use Rattle.parity.proofs.Bytes.{zeros-past, zeros-blank}
 use Rattle.parity.proofs.Columns.{same-column, column-same}
 use Rattle.parity.proofs.Candidate.{candidate-holds}
 use Rattle.parity.proofs.Test.{Test, equal, unequal, atMost, is, both, orElse, every, any, passes, Says, proves}
@@ -63,7 +64,10 @@ test (ambiguous m k b map s v w) =
 test (counted m k b s rows diagonals) = both (equal (brokenRows m k b s) rows) (equal (brokenDiagonals m k b s) diagonals)
 test (wrong m k b s u v) = both (valid? m k b v) (every (k + 2) (λ t. is (differs m b s v t) (eqb u t)))
 test (unmendable m k b s) = both (atMost k m) (every (k + 2) (λ u. stuck? m k b s u))
-test (intact m k b s) = both (equal (brokenRows m k b s) 0) (equal (brokenDiagonals m k b s) 0)
+test (intact m k b s) =
+    both (both (equal (brokenRows m k b s) 0) (equal (brokenDiagonals m k b s) 0)) (any b (λ l. any (m - 1) (λ i. any (k + 2) (λ t. unequal (byte m b s l i t) 0))))
+test (blank m k b s) =
+    both (both (every (length s) (λ x. equal (getD s x 0) 0)) (valid? m k b s)) (both (equal (brokenRows m k b s) 0) (equal (brokenDiagonals m k b s) 0))
 
 tests : List Claim → Test
 tests [] = atMost 0 0
@@ -128,7 +132,12 @@ module _ (table : Table) (at-most-one : AtMostOne) where
   sound (unmendable m k b s) (few, stuck) = λ v p. lt-of-not-le (λ most.
       let (u, inside, alone) = one-pass (k + 2) (differs m b s v) (omega arith) most in
       stuck-sound m k b s u few inside (stuck u inside) v p alone)
-  sound (intact m k b s) (rows, diagonals) = record { rows = rows; diagonals = diagonals }
+  sound (intact m k b s) ((rows, diagonals), (l, hl, (i, hi, (t, ht, there)))) = record {
+    rows = rows;
+    diagonals = diagonals;
+    some = record { l = l; i = i; t = t; inside = (hl, hi, ht); there = there };
+  }
+  sound (blank m k b s) ((zeros, good), (rows, diagonals)) = (zeros-blank m k b s (zeros-past s zeros), valid-sound m k b s good, rows, diagonals)
 
   all-sound : (cs : List Claim) → Says (tests cs) → All cs
   unfolding tests

@@ -1,23 +1,27 @@
 -- What follows from the equations, for every shape: the statements of specs/Theorems. A prime enters in `prime-served` alone.
-use mathlib.Core.Path.{_≡_, refl, sym, ap, _∙_}
-use mathlib.Core.Logic.{_≢_}
+use mathlib.Core.Path.{_≡_, refl, sym, ap, ap₂, _∙_}
+use mathlib.Core.Logic.{_≢_, _↔_, _⊎_, inl, inr, by-cases}
 use mathlib.Core.Bool.{Bool, true, false, not, true≢false}
 use mathlib.Core.List.{List}
-use Prim.Native.Nat.{ℕ, _+_, _-_, _≤_, _<_}
+use Prim.Native.Nat.{ℕ, suc, _+_, _-_, _≤_, _<_}
 use native.Mathlib.Decide.{decLt, ℕ-discrete}
 use native.Mathlib.Omega.{arith}
 use lib.Dec.{eqb}
-use borrow.Author.Tests.{eq-eqb, ne-eqb, eqb-true}
+use lib.ListN.{length, getD}
+use borrow.Author.Tests.{eq-eqb, ne-eqb, eqb-true, eqb-false, not-true}
 use Rattle.parity.specs.Xor.{_⊕_}
 use Rattle.parity.specs.Sum.{count, some}
-use Rattle.parity.specs.Shape.{Prime, Shape}
-use Rattle.parity.specs.Equations.{amountH, amountD, H, D}
-use Rattle.parity.specs.Stripe.{byte, lane, Stripe, Valid, brokenRows, brokenDiagonals}
+use Rattle.parity.specs.Shape.{Prime, Shape, stripeLength}
+use Rattle.parity.specs.Equations.{Lane, cell, back, H, S, D, amountH, amountD, Holds}
+use Rattle.parity.specs.Stripe.{byte, lane, Stripe, Valid, brokenRows, brokenDiagonals, Blank, SomeByte, Intact}
 use Rattle.parity.specs.Presence.{present, absences, differs, differing, DifferIn, Agrees}
-use Rattle.parity.specs.Theorems.{Distance, AtMostOne, ExactlyOne, NeverOne, AbsentUnread, OneWrong, IntactIsValid}
+use Rattle.parity.specs.Theorems.{Distance, AtMostOne, ExactlyOne, NeverOne, AbsentUnread, OneWrong, CountsTell, IntactOrBlank}
 use Rattle.parity.specs.Numbers.{Numbers}
 use Rattle.parity.proofs.Xor.{⊕-self, ⊕-eq}
-use Rattle.parity.proofs.Count.{few-pass, none-pass, all-fail, Last, last-pass, some-false, false-some}
+use Rattle.parity.proofs.Sum.{sum-none}
+use Rattle.parity.proofs.Bytes.{zeros-past, each-place}
+use Rattle.parity.proofs.Cells.{cell-real, cell-imaginary, cell-below}
+use Rattle.parity.proofs.Count.{few-pass, none-pass, all-fail, Last, last-pass, some-false, false-some, some-true}
 use Rattle.parity.proofs.Columns.{not-false, same-column, column-same, other-way, cover}
 use Rattle.parity.proofs.Prime.{inverse}
 use Rattle.parity.proofs.Table.{table}
@@ -205,21 +209,86 @@ module _ (m k b : ℕ) (s : List ℕ) where
   breaks-none : (f : ℕ → ℕ → ℕ) → ((l i : ℕ) → l < b → i < m - 1 → f l i ≡ 0) → count (m - 1) (λ i. some b (λ l. not (eqb (f l i) 0))) ≡ 0
   breaks-none f h = all-fail (m - 1) _ (λ i hi. false-some b _ (λ l hl. ap not (eq-eqb _ _ (h l i hl hi))))
 
-pub intact-is-valid : IntactIsValid
-unfolding IntactIsValid brokenRows brokenDiagonals amountH amountD
-intact-is-valid m k b s st = (
-  λ n. record {
-    stripe = st;
-    lanes = λ l hl. record {
-      h = λ i hi. ⊕-eq _ _ (none-breaks m k b s (λ l i. amountH m k (lane m b s l) i) (n .rows) l i hl hi);
-      d = λ i hi. ⊕-eq _ _ (none-breaks m k b s (λ l i. amountD m k (lane m b s l) i) (n .diagonals) l i hl hi);
-    };
-  },
-  λ v. record {
-    rows = breaks-none m k b s (λ l i. amountH m k (lane m b s l) i) (λ l i hl hi. ap (λ x. x ⊕ H m k (lane m b s l) i) (v .lanes l hl .h i hi) ∙ ⊕-self _);
-    diagonals = breaks-none m k b s (λ l i. amountD m k (lane m b s l) i) (λ l i hl hi. ap (λ x. x ⊕ D m k (lane m b s l) i) (v .lanes l hl .d i hi) ∙ ⊕-self _);
+-- the equations hold in every lane exactly when both counts are zero
+pub lanes-counted : (m k b : ℕ) (s : List ℕ)
+    → ((l : ℕ) → l < b → Holds m k (lane m b s l)) ↔ ((brokenRows m k b s ≡ 0) × (brokenDiagonals m k b s ≡ 0))
+unfolding brokenRows brokenDiagonals amountH amountD
+lanes-counted m k b s = (
+  λ v. (
+    breaks-none m k b s (λ l i. amountH m k (lane m b s l) i) (λ l i hl hi. ap (λ x. x ⊕ H m k (lane m b s l) i) (v l hl .h i hi) ∙ ⊕-self _),
+    breaks-none m k b s (λ l i. amountD m k (lane m b s l) i) (λ l i hl hi. ap (λ x. x ⊕ D m k (lane m b s l) i) (v l hl .d i hi) ∙ ⊕-self _),
+  ),
+  λ n l hl. record {
+    h = λ i hi. ⊕-eq _ _ (none-breaks m k b s (λ l i. amountH m k (lane m b s l) i) (n .0) l i hl hi);
+    d = λ i hi. ⊕-eq _ _ (none-breaks m k b s (λ l i. amountD m k (lane m b s l) i) (n .1) l i hl hi);
   },
 )
+
+-- ---- blank stripes
+
+-- the equations hold of a lane of zeros
+zero-holds : (m k : ℕ) (a : Lane) → ((i t : ℕ) → i < m - 1 → t < k + 2 → a i t ≡ 0) → Holds m k a
+unfolding H D S
+zero-holds m k a z = record {
+  h = λ i hi. z i k hi (omega arith) ∙ sym (sum-none m (λ t l. at i t));
+  d = λ i hi. z i (k + 1) hi (omega arith)
+      ∙ sym (ap₂ _⊕_ (sum-none (m - 1) (λ j l. at (m - 1 - suc j) (suc j))) (sum-none m (λ t l. at (back m i t) t)) ∙ ⊕-self 0);
+}
+  where
+    at : (i t : ℕ) → cell m k a i t ≡ 0
+    at i t =
+        by-cases (decLt i (m - 1))
+        (λ hi. by-cases (decLt t k) (λ ht. cell-real m k a i t hi ht ∙ z i t hi (omega arith)) (λ no. cell-imaginary m k a i t (omega arith)))
+        (λ no. cell-below m k a i t (omega arith))
+
+module _ (m k b : ℕ) (s : List ℕ) where
+  pub blank-holds : Blank m k b s → (l : ℕ) → l < b → Holds m k (lane m b s l)
+  blank-holds z l hl = zero-holds m k (lane m b s l) (λ i t hi ht. z .zeros l i t hl hi ht)
+
+  -- either every byte of a stripe is zero, or some byte is not, and never both
+  pub not-both-blank : SomeByte m k b s → Blank m k b s → ⊥
+  not-both-blank w z = w .there (z .zeros (w .l) (w .i) (w .t) (w .inside .0) (w .inside .1) (w .inside .2))
+
+  pub blank-or-not : Blank m k b s ⊎ SomeByte m k b s
+  blank-or-not = go (some b set) refl
+    where
+      set : ℕ → Bool
+      set l = some (m - 1) (λ i. some (k + 2) (λ t. not (eqb (byte m b s l i t) 0)))
+
+      go : (c : Bool) → some b set ≡ c → Blank m k b s ⊎ SomeByte m k b s
+      go true e =
+          let (l, hl, p) = some-true b set e in
+          let (i, hi, q) = some-true (m - 1) _ p in
+          let (t, ht, r) = some-true (k + 2) _ q in
+          inr (record { l = l; i = i; t = t; inside = (hl, hi, ht); there = eqb-false _ _ (not-true _ r) })
+      go false e = inl (record {
+        zeros = λ l i t hl hi ht. eqb-true _ _ (not-false _ (some-false (k + 2) _ (some-false (m - 1) _ (some-false b set e l hl) i hi) t ht));
+      })
+
+  -- a blank stripe has no other number than zero, past its end either, and is valid
+  module _ (h : Shape m k b) (whole : length s ≡ stripeLength m k b) (z : Blank m k b s) where
+    pub blank-zeros : (x : ℕ) → getD s x 0 ≡ 0
+    blank-zeros x =
+        zeros-past s (each-place m k b (h .value .prime .big) (h .filled) (λ y. y ≡ 0) s whole (z .zeros)) x
+
+    pub blank-valid : Valid m k b s
+    blank-valid = record { stripe = record { whole = whole; bytes = λ x. omega (arith, blank-zeros x) }; lanes = blank-holds z }
+
+pub counts-tell : CountsTell
+unfolding CountsTell
+counts-tell m k b s st = (λ v. lanes-counted m k b s .0 (v .lanes), λ n. record { stripe = st; lanes = lanes-counted m k b s .1 n })
+
+pub intact-or-blank : IntactOrBlank
+unfolding IntactOrBlank CountsTell
+intact-or-blank m k b s st = ((λ v. go v (blank-or-not m k b s), back), λ n z. not-both-blank m k b s (n .some) z)
+  where
+    go : Valid m k b s → Blank m k b s ⊎ SomeByte m k b s → Intact m k b s ⊎ Blank m k b s
+    go v (inl z) = inr z
+    go v (inr w) = let (rows, diagonals) = counts-tell m k b s st .0 v in inl (record { rows = rows; diagonals = diagonals; some = w })
+
+    back : Intact m k b s ⊎ Blank m k b s → Valid m k b s
+    back (inl n) = counts-tell m k b s st .1 (n .rows, n .diagonals)
+    back (inr z) = record { stripe = st; lanes = blank-holds m k b s z }
 
 -- ---- the numbers
 

@@ -1,4 +1,4 @@
--- The numbers C1 to C11, and one with two bytes in a cell, as claims about the definitions.
+-- The numbers C1 to C11, and two more, as claims about the definitions.
 use mathlib.Core.Path.{_≡_}
 use mathlib.Core.Logic.{_≢_}
 use mathlib.Core.Bool.{Bool, true, false}
@@ -7,7 +7,7 @@ use Prim.Native.Nat.{ℕ, _≤_, _<_}
 use lib.Dec.{eqb}
 use lib.ListN.{getD}
 use Rattle.parity.specs.Equations.{S}
-use Rattle.parity.specs.Stripe.{lane, Valid, brokenRows, brokenDiagonals, Intact}
+use Rattle.parity.specs.Stripe.{lane, Valid, brokenRows, brokenDiagonals, Blank, Intact}
 use Rattle.parity.specs.Presence.{absences, differing, DifferIn, Agrees}
 
 -- a shape's m, k and b come first
@@ -30,6 +30,8 @@ pub data Claim : Type 0 where
   unmendable : ℕ → ℕ → ℕ → List ℕ → Claim
   -- the stripe is intact
   intact : ℕ → ℕ → ℕ → List ℕ → Claim
+  -- the stripe is blank: it is valid, and no row or diagonal breaks
+  blank : ℕ → ℕ → ℕ → List ℕ → Claim
 
 abbrev pub Means : Claim → Type 0
 Means (valid m k b s) = Valid m k b s
@@ -43,6 +45,7 @@ Means (counted m k b s rows diagonals) = (brokenRows m k b s ≡ rows) × (broke
 Means (wrong m k b s u v) = Valid m k b v × DifferIn m k b (eqb u) s v
 Means (unmendable m k b s) = (v : List ℕ) → Valid m k b v → 2 ≤ differing m k b s v
 Means (intact m k b s) = Intact m k b s
+Means (blank m k b s) = Blank m k b s × Valid m k b s × (brokenRows m k b s ≡ 0) × (brokenDiagonals m k b s ≡ 0)
 
 abbrev pub All : List Claim → Type 0
 All [] = Unit {0}
@@ -74,8 +77,10 @@ numbers =
     -- C10: C1 with columns 0, 1 and 2 absent
     ∷ ambiguous 3 3 1 (false ∷ false ∷ false ∷ true ∷ true ∷ []) (0xff ∷ 0xff ∷ 0xff ∷ 0xff ∷ 0xff ∷ 0xff ∷ 0x15 ∷ 0x2a ∷ 0x39 ∷ 0x1e ∷ []) (0x01 ∷ 0x02 ∷ 0x04 ∷ 0x08 ∷ 0x10 ∷ 0x20 ∷ 0x15 ∷ 0x2a ∷ 0x39 ∷ 0x1e ∷ []) (0x01 ∷ 0x03 ∷ 0x05 ∷ 0x09 ∷ 0x11 ∷ 0x20 ∷ 0x15 ∷ 0x2a ∷ 0x39 ∷ 0x1e ∷ [])
     -- C11
-    ∷ intact 3 3 1 (0 ∷ 0 ∷ 0 ∷ 0 ∷ 0 ∷ 0 ∷ 0 ∷ 0 ∷ 0 ∷ 0 ∷ [])
-    -- one more, ours: C1 in two lanes, of which the first is wrong in column 0 and the second in column 1. No column is wrong in both
+    ∷ blank 3 3 1 (0 ∷ 0 ∷ 0 ∷ 0 ∷ 0 ∷ 0 ∷ 0 ∷ 0 ∷ 0 ∷ 0 ∷ [])
+    -- two more, ours. C1 is intact
+    ∷ intact 3 3 1 (0x01 ∷ 0x02 ∷ 0x04 ∷ 0x08 ∷ 0x10 ∷ 0x20 ∷ 0x15 ∷ 0x2a ∷ 0x39 ∷ 0x1e ∷ [])
+    -- C1 in two lanes, of which the first is wrong in column 0 and the second in column 1. No column is wrong in both
     ∷ counted 3 3 2 (0x00 ∷ 0x01 ∷ 0x02 ∷ 0x02 ∷ 0x04 ∷ 0x05 ∷ 0x08 ∷ 0x08 ∷ 0x10 ∷ 0x10 ∷ 0x20 ∷ 0x20 ∷ 0x15 ∷ 0x15 ∷ 0x2a ∷ 0x2a ∷ 0x39 ∷ 0x39 ∷ 0x1e ∷ 0x1e ∷ []) 1 2
     ∷ unmendable 3 3 2 (0x00 ∷ 0x01 ∷ 0x02 ∷ 0x02 ∷ 0x04 ∷ 0x05 ∷ 0x08 ∷ 0x08 ∷ 0x10 ∷ 0x10 ∷ 0x20 ∷ 0x20 ∷ 0x15 ∷ 0x15 ∷ 0x2a ∷ 0x2a ∷ 0x39 ∷ 0x39 ∷ 0x1e ∷ 0x1e ∷ [])
     ∷ []

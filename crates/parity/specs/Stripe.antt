@@ -5,8 +5,11 @@
 --   Valid m k b s          it is a stripe whose equations hold in every lane
 --   brokenRows             the rows whose H equation breaks, a cell counting once however many of its bytes break
 --   brokenDiagonals        the same of D
---   Intact m k b s         both counts are zero
+--   Blank m k b s          every byte is zero
+--   SomeByte m k b s       some byte is not
+--   Intact m k b s         both counts are zero, and some byte is not
 use mathlib.Core.Path.{_≡_}
+use mathlib.Core.Logic.{_≢_}
 use mathlib.Core.Bool.{not}
 use mathlib.Core.List.{List}
 use Prim.Native.Nat.{ℕ, _+_, _-_, _*_, _<_}
@@ -36,6 +39,17 @@ brokenRows m k b s = count (m - 1) (λ i. some b (λ l. not (eqb (amountH m k (l
 unfoldable pub brokenDiagonals : ℕ → ℕ → ℕ → List ℕ → ℕ
 brokenDiagonals m k b s = count (m - 1) (λ i. some b (λ l. not (eqb (amountD m k (lane m b s l) i) 0)))
 
+pub record Blank (m k b : ℕ) (s : List ℕ) : Type 0 where
+  pub zeros : (l i t : ℕ) → l < b → i < m - 1 → t < k + 2 → byte m b s l i t ≡ 0
+
+pub record SomeByte (m k b : ℕ) (s : List ℕ) : Type 0 where
+  pub l : ℕ
+  pub i : ℕ
+  pub t : ℕ
+  pub inside : (l < b) × (i < m - 1) × (t < k + 2)
+  pub there : byte m b s l i t ≢ 0
+
 pub record Intact (m k b : ℕ) (s : List ℕ) : Type 0 where
   pub rows : brokenRows m k b s ≡ 0
   pub diagonals : brokenDiagonals m k b s ≡ 0
+  pub some : SomeByte m k b s

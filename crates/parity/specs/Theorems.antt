@@ -1,12 +1,12 @@
 -- What follows from the equations, for every shape. Each statement is a type, which proofs/Table (for Table) and proofs/Theorems inhabit.
 use mathlib.Core.Path.{_≡_}
-use mathlib.Core.Logic.{_≢_, _↔_}
+use mathlib.Core.Logic.{_≢_, _↔_, _⊎_}
 use mathlib.Core.Bool.{Bool, true}
 use mathlib.Core.List.{List}
 use Prim.Native.Nat.{ℕ, _+_, _≤_, _<_}
 use lib.Dec.{eqb}
 use Rattle.parity.specs.Shape.{OddPrime, accepted, member, Shape}
-use Rattle.parity.specs.Stripe.{Stripe, Valid, Intact}
+use Rattle.parity.specs.Stripe.{Stripe, Valid, brokenRows, brokenDiagonals, Blank, Intact}
 use Rattle.parity.specs.Presence.{absences, differing, DifferIn, Agrees}
 
 -- The table holds every odd prime up to 127 and nothing else.
@@ -41,6 +41,10 @@ unfoldable pub OneWrong : Type 0
 OneWrong = (m k b : ℕ) → Shape m k b → (s u v : List ℕ) (x y : ℕ) → x < k + 2 → y < k + 2 → Valid m k b u → Valid m k b v
     → DifferIn m k b (eqb x) s u → DifferIn m k b (eqb y) s v → (x ≡ y) × (u ≡ v)
 
--- A stripe is intact exactly when it is valid.
-unfoldable pub IntactIsValid : Type 0
-IntactIsValid = (m k b : ℕ) (s : List ℕ) → Stripe m k b s → Intact m k b s ↔ Valid m k b s
+-- A stripe is valid exactly when both counts are zero.
+unfoldable pub CountsTell : Type 0
+CountsTell = (m k b : ℕ) (s : List ℕ) → Stripe m k b s → Valid m k b s ↔ ((brokenRows m k b s ≡ 0) × (brokenDiagonals m k b s ≡ 0))
+
+-- A stripe is valid exactly when it is intact or blank, and it is never both.
+unfoldable pub IntactOrBlank : Type 0
+IntactOrBlank = (m k b : ℕ) (s : List ℕ) → Stripe m k b s → (Valid m k b s ↔ (Intact m k b s ⊎ Blank m k b s)) × (Intact m k b s → Blank m k b s → ⊥)

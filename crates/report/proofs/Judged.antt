@@ -5,7 +5,8 @@
 --   bench-size                    the bench that was lent comes back with its length
 --   read-passes, read-fills       what reading such an image into a stripe of its length leaves
 --   skip                          a rule whose condition fails is passed over
---   parts-complete, parts-contradicted    a judgement in parts, by what restore answers
+--   parts-held                    where restore passes, every column can be shown
+--   parts-blank, parts-complete, parts-contradicted    a judgement in parts, by what restore answers and whether the columns are blank
 --   part-size                     the length of a part that begins a buffer
 --   formed-ambiguous, formed-stripe, formed-bench, formed-lent    a judgement of a well-formed image, by the way out
 --   image-long, image-bad, image-formed   a judgement of an image, by the way out
@@ -30,6 +31,8 @@ use Rattle.inputs.specs.Truth.{TrueMap, absentByCount}
 use Rattle.inputs.specs.Rules.{stripeLengthDiffers, contradicted, gapRules}
 use Rattle.inputs.specs.Maps.{New}
 use Rattle.evenodd.specs.Restores.{Restores}
+use Rattle.evenodd.specs.EndToEnd.{Together}
+use Rattle.evenodd.proofs.EndToEnd.{together}
 use Rattle.inputs.proofs.Rules.{passes-not, refuse-one, gives-first, gives-next, gives-one, gives-after, gives-passed, gives-rest}
 use Rattle.inputs.proofs.Tests.{gaps-passed}
 use Rattle.inputs.proofs.Truth.{absent-counted}
@@ -44,7 +47,9 @@ use Rattle.report.specs.declared.writing.Shape.{Shape}
 use Rattle.report.specs.declared.judging.Outcome.{Outcome}
 use Rattle.report.specs.declared.judging.Outcome.the-variants as outcome
 use Rattle.report.specs.declared.judging.Judgement.{Judgement}
-use Rattle.report.specs.Judgements.{Formed, Complete, Benches, JudgesParts, stripeOf, benchOf, InParts, Leaves, JudgesFormed, JudgesImage}
+use Rattle.report.specs.Shown.{ShownZeros, Held}
+use Rattle.report.specs.Judgements.{Formed, partRules, Complete, Benches, JudgesParts, stripeOf, benchOf, InParts, Leaves, JudgesFormed, JudgesImage}
+use Rattle.report.proofs.Blank.{shown-blank, blank-shown}
 
 pub formed-good : {image : List ℕ} {shape : Shape} {map : Map} → Formed image shape map → Good image (shape .m) (shape .k) (shape .b) (map .places)
 formed-good {image} {shape} {map} f = good-answer image map (f .told) (f .says)
@@ -98,13 +103,40 @@ skip n (inl p) = absurd (n (p .0))
 skip n (inr p) = p .1
 
 module _ {image s filled bench after : List ℕ} {shape : Shape} {map : Map} (f : Formed image shape map) (h : Filled (shape .m) (shape .k) (shape .b) (map .places) image s filled) where
-  pub parts-complete : {n x y : ℕ} → Restores (shape .m) (shape .k) (shape .b) map filled bench after (restored.Columns n x y)
-      → JudgesParts shape map image s filled bench after (outcome.Complete shape)
-  parts-complete {n} {x} {y} r = record {
-    read = h;
-    told = let from = r .restored refl in gives-next (λ none. none (from .stripe) (from .valid) (from .agrees)) refl;
-    benches = (refl, record { count = n; first = x; second = y; restored = r .restored refl });
-  }
+  module _ {n x y : ℕ} (r : Restores (shape .m) (shape .k) (shape .b) map filled bench after (restored.Columns n x y)) where
+    from : Complete shape map filled bench after
+    from = record { count = n; first = x; second = y; restored = r .restored refl }
+
+    fits : Gives (partRules shape map filled) pass
+    fits = let u = from .restored in gives-next (λ none. none (u .stripe) (u .valid) (u .agrees)) refl
+
+    module _ (few : absences (shape .k) (map .places) ≤ 2) where
+      one : Together (shape .m) (shape .k) (shape .b) (map .places) filled after (from .restored .stripe)
+      one = together few (from .restored)
+
+      good : Good image (shape .m) (shape .k) (shape .b) (map .places)
+      good = formed-good f
+
+      pub parts-held : length s ≡ stripeOf shape → length bench ≡ benchOf shape → Held (shape .m) (shape .k) (shape .b) map filled after
+      parts-held long room = record {
+        shape = good .shape;
+        stripe = h .size ∙ long;
+        room = from .restored .bench .size ∙ room;
+        truth = formed-truth f;
+        clear = not-stray good;
+        few = few;
+      }
+
+      pub parts-blank : ShownZeros (shape .m) (shape .k) (shape .b) (map .places) filled after → JudgesParts shape map image s filled bench after (outcome.Blank shape)
+      parts-blank z = record {
+        read = h;
+        told = fits;
+        benches = (refl, from, shown-blank one z);
+      }
+
+      pub parts-complete : (ShownZeros (shape .m) (shape .k) (shape .b) (map .places) filled after → ⊥)
+          → JudgesParts shape map image s filled bench after (outcome.Complete shape)
+      parts-complete n = record { read = h; told = fits; benches = (refl, from, λ z. n (blank-shown one (good .shape .filled) z)) }
 
   pub parts-contradicted : length s ≡ stripeOf shape → length bench ≡ benchOf shape → absences (shape .k) (map .places) ≤ 2 → (e : Refusal)
       → Restores (shape .m) (shape .k) (shape .b) map filled bench after (restored.Refused e)
@@ -127,6 +159,7 @@ module _ {image s filled bench after : List ℕ} {shape : Shape} {map : Map} (f 
 -- the bench that was lent comes back with its length
 pub bench-size : (shape : Shape) (map : Map) (filled before after : List ℕ) (r : Outcome) → Benches shape map filled before after r → length after ≡ length before
 bench-size shape map filled before after (outcome.Complete x) p = p .1 .restored .bench .size
+bench-size shape map filled before after (outcome.Blank x) p = p .1 .restored .bench .size
 bench-size shape map filled before after (outcome.Contradicted x) p = ap length (p .1)
 bench-size shape map filled before after (outcome.Ambiguous x) p = absurd p
 bench-size shape map filled before after (outcome.Refused e) p = absurd p
@@ -163,6 +196,7 @@ module _ {image s bench : List ℕ} {shape : Shape} {map : Map} where
         leaves : (r : Outcome) → Benches shape map y (take (benchOf shape) bench) z r → InParts shape map image s (y ++ drop (stripeOf shape) s) bench (z ++ drop (benchOf shape) bench) r
             → Leaves shape map image s (y ++ drop (stripeOf shape) s) bench (z ++ drop (benchOf shape) bench) r
         leaves (outcome.Complete x) b p = p
+        leaves (outcome.Blank x) b p = p
         leaves (outcome.Contradicted x) b p = p
         leaves (outcome.Ambiguous x) b p = absurd b
         leaves (outcome.Refused e) b p = absurd b

@@ -9,14 +9,17 @@ use native.Mathlib.Omega.{arith}
 use lib.Dec.{eqb}
 use lib.ListN.{length, take, drop, take-append-drop}
 use lib.Seq.{length-take-le}
-use Rattle.parity.specs.Presence.{absences}
+use Rattle.parity.specs.Stripe.{Valid, Blank}
+use Rattle.parity.specs.Presence.{absences, Agrees}
+use Rattle.parity.specs.Theorems.{AtMostOne}
+use Rattle.parity.proofs.Theorems.{at-most-one}
 use Rattle.cells.proofs.Parts.{by-order}
 use Rattle.inputs.specs.declared.maps.Map.{Map}
 use Rattle.evenodd.specs.declared.restores.Restored.{Restored}
 use Rattle.evenodd.specs.declared.restores.Restored.the-variants as restored
 use Rattle.inputs.specs.declared.shapes.Refusal.{Refusal}
 use Rattle.inputs.specs.declared.shapes.Refusal.the-variants as refusal
-use Rattle.inputs.specs.Refusals.{numberOf, Verdict, refuse, Gives}
+use Rattle.inputs.specs.Refusals.{numberOf, Verdict, pass, refuse, Gives}
 use Rattle.inputs.specs.Rules.{gapRules, restoreRules}
 use Rattle.evenodd.specs.Restores.{Restores}
 use Rattle.inputs.specs.Determined.{NewOne}
@@ -33,10 +36,11 @@ use Rattle.report.specs.declared.writing.Shape.{Shape}
 use Rattle.report.specs.declared.judging.Outcome.{Outcome}
 use Rattle.report.specs.declared.judging.Outcome.the-variants as outcome
 use Rattle.report.specs.declared.judging.Judgement.{Judgement}
-use Rattle.report.specs.Judgements.{Formed, verdictOf, partRules, Benches, JudgesParts, stripeOf, benchOf, formedRules, InParts, Unwritten, Leaves, JudgesFormed, Rejected}
+use Rattle.report.specs.Judgements.{Formed, verdictOf, partRules, Complete, Benches, JudgesParts, stripeOf, benchOf, formedRules, InParts, Unwritten, Leaves, JudgesFormed, Rejected}
 use Rattle.report.specs.Reports.{textOf}
-use Rattle.report.specs.Theorems.{JudgesImageOne, ReportsOne, AnswerAlone, Enough}
+use Rattle.report.specs.Theorems.{JudgesImageOne, ReportsOne, AnswerAlone, PresentZeros, BlankTold, Enough}
 use Rattle.report.proofs.Judged.{by-contents, formed-good, formed-truth, not-stray, read-passes, skip}
+use Rattle.report.proofs.Blank.{agrees-blank, blank-agrees, blank-stripe, stripe-blank, stripe-valid}
 use Rattle.report.proofs.Told.{most}
 
 -- the refusals 2 and 3: no other refusal is one of them
@@ -56,11 +60,6 @@ joined n {x} {y} e d = sym (take-append-drop n x) ∙ ap₂ (λ a b. a ++ b) e d
 
 -- ---- what is judged in parts
 
--- the outcome by what restore answers
-abbrev outcomeBy : Shape → Restored → Outcome
-outcomeBy shape (restored.Columns n x y) = outcome.Complete shape
-outcomeBy shape (restored.Refused f) = outcome.Contradicted shape
-
 module _ {image : List ℕ} (s bench : List ℕ) {shape : Shape} {map : Map} (f : Formed image shape map) (few : absences (shape .k) (map .places) ≤ 2)
     (long : length s ≡ stripeOf shape) (room : length bench ≡ benchOf shape) where
   reads : {x : List ℕ} → Filled (shape .m) (shape .k) (shape .b) (map .places) image s x
@@ -74,24 +73,59 @@ module _ {image : List ℕ} (s bench : List ℕ) {shape : Shape} {map : Map} (f 
       gives-after (gapRules (shape .m) (shape .k) (shape .b) map (length x) (length bench)) (partRules shape map x) _
       (gaps-passed (shape .m) (shape .k) (shape .b) (length x) map (length bench) (record { shape = g .shape; stripe = e ∙ long; held = room; truth = formed-truth f; clear = not-stray g }) few) told
 
+  columns : {x y : List ℕ} → length x ≡ length s → Gives (partRules shape map x) pass → Complete shape map x bench y
+      → (r : Restored) × Restores (shape .m) (shape .k) (shape .b) map x bench y r
+  columns e told c = (
+    restored.Columns (c .count) (c .first) (c .second),
+    record { told = rules e told; restored = λ _. c .restored; kept = λ g q. absurd (passes-not g q) },
+  )
+
   restores : (x y : List ℕ) (o : Outcome) → length x ≡ length s → Gives (partRules shape map x) (verdictOf o) → Benches shape map x bench y o
-      → (r : Restored) × Restores (shape .m) (shape .k) (shape .b) map x bench y r × (o ≡ outcomeBy shape r)
-  restores x y (outcome.Complete z) e told (same, c) =
-      (restored.Columns (c .count) (c .first) (c .second), record { told = rules e told; restored = λ _. c .restored; kept = λ g q. absurd (passes-not g q) }, ap outcome.Complete same)
-  restores x y (outcome.Contradicted z) e told (same, c) =
-      (restored.Refused refusal.Contradicted, record { told = rules e told; restored = λ q. absurd (passes-not refusal.Contradicted (sym q)); kept = λ _ _. c }, ap outcome.Contradicted same)
+      → (r : Restored) × Restores (shape .m) (shape .k) (shape .b) map x bench y r
+  restores x y (outcome.Complete z) e told (_, c, _) = columns e told c
+  restores x y (outcome.Blank z) e told (_, c, _) = columns e told c
+  restores x y (outcome.Contradicted z) e told (_, c) =
+      (restored.Refused refusal.Contradicted, record { told = rules e told; restored = λ q. absurd (passes-not refusal.Contradicted (sym q)); kept = λ _ _. c })
   restores x y (outcome.Ambiguous z) e told b = absurd b
   restores x y (outcome.Refused g) e told b = absurd b
+
+  -- two that are complete have restored one stripe
+  one-stripe : {x y z : List ℕ} (c : Complete shape map x bench y) (d : Complete shape map x bench z) → c .restored .stripe ≡ d .restored .stripe
+  unfolding AtMostOne
+  one-stripe {x} c d =
+      let u = c .restored in
+      let v = d .restored in
+      at-most-one (shape .m) (shape .k) (shape .b) (formed-good f .shape) (map .places) few x (u .stripe) (v .stripe) (u .valid) (v .valid) (u .agrees) (v .agrees)
+
+  -- so one verdict is one outcome
+  outcome-one : (x y z : List ℕ) (o p : Outcome) → verdictOf o ≡ verdictOf p → Benches shape map x bench y o → Benches shape map x bench z p → o ≡ p
+  outcome-one _ _ _ (outcome.Complete _) (outcome.Complete _) e (a, _, _) (b, _, _) = ap outcome.Complete (a ∙ sym b)
+  outcome-one _ _ _ (outcome.Complete _) (outcome.Blank _) e (_, c, n) (_, d, z) = absurd (n (rw (one-stripe c d) z))
+  outcome-one _ _ _ (outcome.Complete _) (outcome.Contradicted _) e u v = absurd (passes-not refusal.Contradicted e)
+  outcome-one _ _ _ (outcome.Complete _) (outcome.Ambiguous _) e u v = absurd v
+  outcome-one _ _ _ (outcome.Complete _) (outcome.Refused _) e u v = absurd v
+  outcome-one _ _ _ (outcome.Blank _) (outcome.Complete _) e (_, c, z) (_, d, n) = absurd (n (rw (one-stripe d c) z))
+  outcome-one _ _ _ (outcome.Blank _) (outcome.Blank _) e (a, _, _) (b, _, _) = ap outcome.Blank (a ∙ sym b)
+  outcome-one _ _ _ (outcome.Blank _) (outcome.Contradicted _) e u v = absurd (passes-not refusal.Contradicted e)
+  outcome-one _ _ _ (outcome.Blank _) (outcome.Ambiguous _) e u v = absurd v
+  outcome-one _ _ _ (outcome.Blank _) (outcome.Refused _) e u v = absurd v
+  outcome-one _ _ _ (outcome.Contradicted _) (outcome.Complete _) e u v = absurd (passes-not refusal.Contradicted (sym e))
+  outcome-one _ _ _ (outcome.Contradicted _) (outcome.Blank _) e u v = absurd (passes-not refusal.Contradicted (sym e))
+  outcome-one _ _ _ (outcome.Contradicted _) (outcome.Contradicted _) e (a, _) (b, _) = ap outcome.Contradicted (a ∙ sym b)
+  outcome-one _ _ _ (outcome.Contradicted _) (outcome.Ambiguous _) e u v = absurd v
+  outcome-one _ _ _ (outcome.Contradicted _) (outcome.Refused _) e u v = absurd v
+  outcome-one _ _ _ (outcome.Ambiguous _) p e u v = absurd u
+  outcome-one _ _ _ (outcome.Refused _) p e u v = absurd u
 
   parts-one : {x y z w : List ℕ} (o p : Outcome) → JudgesParts shape map image s x bench z o → JudgesParts shape map image s y bench w p
       → (o ≡ p) × (x ≡ y) × (z ≡ w)
   unfolding ReadsOne RestoresOne
   parts-one {x} {y} {z} {w} o p u v =
       let (_, same) = reads-one image s x y _ _ (reads (u .read)) (reads (v .read)) in
-      let (r, h, e) = restores x z o (u .read .size) (u .told) (u .benches) in
-      let (q, k, d) = restores y w p (v .read .size) (v .told) (v .benches) in
-      let (answer, bytes) = restores-one (shape .m) (shape .k) (shape .b) map x bench z w r q h (rw same k) in
-      (e ∙ ap (outcomeBy shape) answer ∙ sym d, same, bytes)
+      let (r, h) = restores x z o (u .read .size) (u .told) (u .benches) in
+      let (q, k) = restores y w p (v .read .size) (v .told) (v .benches) in
+      let (_, bytes) = restores-one (shape .m) (shape .k) (shape .b) map x bench z w r q h (rw same k) in
+      (outcome-one x z w o p (gives-one (partRules shape map x) _ _ (u .told) (rw same (v .told))) (u .benches) (rw same (v .benches)), same, bytes)
 
 -- ---- what is judged of a well-formed image
 
@@ -107,6 +141,7 @@ module _ {image s bench after benched : List ℕ} {shape : Shape} {map : Map} (o
     where
       go : (o : Outcome) → verdictOf o ≡ refuse f → Leaves shape map image s after bench benched o → (o ≡ early shape f) × Unwritten s after bench benched
       go (outcome.Complete x) e l = absurd (passes-not f e)
+      go (outcome.Blank x) e l = absurd (passes-not f e)
       go (outcome.Contradicted x) e l = absurd (let n = ap numberOf (refuse-one refusal.Contradicted f e) in omega arith)
       go (outcome.Ambiguous x) e (same, w) = (ap outcome.Ambiguous same ∙ ap (early shape) (refuse-one refusal.Ambiguous f e), w)
       go (outcome.Refused g) e (inl d, w) = (ap outcome.Refused d ∙ ap (early shape) (sym d ∙ refuse-one g f e), w)
@@ -119,6 +154,7 @@ module _ {image s bench after benched : List ℕ} {shape : Shape} {map : Map} (o
       go : (o : Outcome) → Gives (partRules shape map (take (stripeOf shape) after)) (verdictOf o) → Leaves shape map image s after bench benched o
           → InParts shape map image s after bench benched o
       go (outcome.Complete y) told l = l
+      go (outcome.Blank y) told l = l
       go (outcome.Contradicted y) told l = l
       go (outcome.Ambiguous y) (inl p) l = absurd (let n = ap numberOf (refuse-one refusal.Ambiguous refusal.Contradicted (p .1)) in omega arith)
       go (outcome.Ambiguous y) (inr p) l = absurd (passes-not refusal.Ambiguous (sym (p .1)))
@@ -192,6 +228,51 @@ pub answer-alone : AnswerAlone
 unfolding AnswerAlone
 answer-alone image s after bench benched before out r f h short told =
     h .text ∙ ap (λ o. textOf o (h .judgement .map) after benched) (h .judged .bad short f told .outcome)
+
+-- ---- what is judged blank
+
+-- where every byte that is present is zero, the blank stripe fits, and no other does
+module _ {image : List ℕ} {shape : Shape} {map : Map} (formed : Formed image shape map) (few : absences (shape .k) (map .places) ≤ 2) (x : List ℕ)
+    (c : PresentZeros (shape .m) (shape .k) (shape .b) (map .places) x) where
+  zeros : List ℕ
+  zeros = blank-stripe (shape .m) (shape .k) (shape .b)
+
+  fits : Agrees (shape .m) (shape .k) (shape .b) (map .places) x zeros
+  unfolding zeros
+  fits = blank-agrees (stripe-blank (shape .m) (shape .k) (shape .b)) c
+
+  only : (v : List ℕ) → Valid (shape .m) (shape .k) (shape .b) v → Agrees (shape .m) (shape .k) (shape .b) (map .places) x v → Blank (shape .m) (shape .k) (shape .b) v
+  unfolding zeros AtMostOne
+  only v valid a =
+      let one = at-most-one (shape .m) (shape .k) (shape .b) (formed-good formed .shape) (map .places) few x v zeros valid (stripe-valid (shape .m) (shape .k) (shape .b)) a fits in
+      rw one (stripe-blank (shape .m) (shape .k) (shape .b))
+
+  not-contradicted : Gives (partRules shape map x) (refuse refusal.Contradicted) → ⊥
+  unfolding zeros
+  not-contradicted (inl q) = q .0 zeros (stripe-valid (shape .m) (shape .k) (shape .b)) fits
+  not-contradicted (inr q) = passes-not refusal.Contradicted (sym (q .1))
+
+pub blank-told : BlankTold
+unfolding BlankTold
+blank-told image s after bench benched r shape map h short formed few long room = (λ e. there (rw e at parts), go (r .outcome) parts)
+  where
+    -- the stripe as it was read
+    x : List ℕ
+    x = take (stripeOf shape) after
+
+    parts : InParts shape map image s after bench benched (r .outcome)
+    parts = in-parts (r .outcome) (h .formed short shape map formed .1) few long room
+
+    there : InParts shape map image s after bench benched (outcome.Blank shape) → PresentZeros (shape .m) (shape .k) (shape .b) (map .places) x
+    there p = let (_, c, z) = p .parts .benches in agrees-blank z (c .restored .agrees)
+
+    go : (o : Outcome) → InParts shape map image s after bench benched o → PresentZeros (shape .m) (shape .k) (shape .b) (map .places) x → o ≡ outcome.Blank shape
+    go (outcome.Complete y) p c =
+        let (_, d, n) = p .parts .benches in absurd (n (only formed few x c (d .restored .stripe) (d .restored .valid) (d .restored .agrees)))
+    go (outcome.Blank y) p c = ap outcome.Blank (p .parts .benches .0)
+    go (outcome.Contradicted y) p c = absurd (not-contradicted formed few x c (p .parts .told))
+    go (outcome.Ambiguous y) p c = absurd (p .parts .benches)
+    go (outcome.Refused e) p c = absurd (p .parts .benches)
 
 -- ---- what is never judged where enough is lent
 

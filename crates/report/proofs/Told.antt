@@ -7,6 +7,7 @@
 --   held-lent, text-lent    the same of the parts of the stripe and of the bench as they are lent
 --   reports-start  text that is written at the start of the buffer is the report
 use mathlib.Core.Path.{_≡_, refl, sym, ap, _∙_}
+use mathlib.Core.Logic.{_⊎_, inl, inr}
 use mathlib.Core.Bool.{Bool, true, false, not, cond}
 use mathlib.Core.List.{List, _++_}
 use Prim.Native.Nat.{ℕ, zero, suc, _+_, _*_, _-_, _≤_, _<_}
@@ -21,6 +22,7 @@ use Rattle.cells.proofs.Parts.{by-order}
 use Rattle.text.specs.Text.{Wrote}
 use Rattle.inputs.specs.declared.maps.Map.{Map}
 use Rattle.inputs.specs.declared.shapes.Refusal.the-variants as refusal
+use Rattle.inputs.specs.Refusals.{pass, Gives}
 use Rattle.inputs.specs.Absent.{absentBelow}
 use Rattle.inputs.proofs.Rules.{passed-first}
 use Rattle.inputs.proofs.Presence.{absences-below}
@@ -32,8 +34,8 @@ use Rattle.report.specs.declared.judging.Outcome.{Outcome}
 use Rattle.report.specs.declared.judging.Outcome.the-variants as outcome
 use Rattle.report.specs.declared.judging.Judgement.{Judgement}
 use Rattle.report.specs.Shown.{shown, Held}
-use Rattle.report.specs.Lines.{shapeLine, columnLines, answerLine}
-use Rattle.report.specs.Judgements.{Formed, stripeOf, benchOf, Leaves, JudgesFormed, JudgesImage}
+use Rattle.report.specs.Lines.{shapeLine, columnLines, doneLine}
+use Rattle.report.specs.Judgements.{Formed, stripeOf, benchOf, formedRules, InParts, Leaves, JudgesFormed, JudgesImage}
 use Rattle.report.specs.Reports.{completeText, textOf, Tellable, Reports}
 use Rattle.report.proofs.Judged.{by-contents, formed-good, formed-truth, not-stray, bench-size}
 
@@ -63,7 +65,7 @@ module _ {image : List ℕ} {m k b : ℕ} {map : List Bool} (g : Good image m k 
   unfolding stripeLength benchLength
   most = let (all, one) = small in (omega (arith, add-mul k 2 (columnLength m b)), omega arith)
 
-  text-room : 33 + (k + 2) * (15 + 2 * columnLength m b) ≤ 102400
+  text-room : 36 + (k + 2) * (15 + 2 * columnLength m b) ≤ 102400
   text-room =
       let c = columnLength m b in
       let (all, one) = small in
@@ -74,6 +76,7 @@ module _ {image : List ℕ} {m k b : ℕ} {map : List Bool} (g : Good image m k 
 -- the shape that an outcome names
 abbrev pub Names : Shape → Outcome → Type 0
 Names x (outcome.Complete y) = y ≡ x
+Names x (outcome.Blank y) = y ≡ x
 Names x (outcome.Ambiguous y) = y ≡ x
 Names x (outcome.Contradicted y) = y ≡ x
 Names x (outcome.Refused f) = ⊥
@@ -86,6 +89,7 @@ pub record Told (image s after bench benched : List ℕ) (j : Judgement) (shape 
 module _ (image s after bench benched : List ℕ) (x y : Shape) (map : Map) where
   same-shape : (o : Outcome) → Names x o → Leaves y map image s after bench benched o → y ≡ x
   same-shape (outcome.Complete z) e l = sym (l .parts .benches .0) ∙ e
+  same-shape (outcome.Blank z) e l = sym (l .parts .benches .0) ∙ e
   same-shape (outcome.Contradicted z) e l = sym (l .parts .benches .0) ∙ e
   same-shape (outcome.Ambiguous z) e l = sym (l .0) ∙ e
   same-shape (outcome.Refused f) e l = absurd e
@@ -104,16 +108,25 @@ module _ {image s after bench benched : List ℕ} where
     pub told-fits : (shape .m < 10000) × (shape .k < 10000) × (shape .b < 10000)
     told-fits = let x = formed-good (t .formed) .shape in (omega (arith, x .value .most), omega (arith, x .few, x .value .most), omega (arith, x .short))
 
-    pub tellable : (room : ℕ) → 102400 ≤ room → j .outcome ≡ outcome.Complete shape → Tellable shape (j .map) after benched room
-    tellable room most e =
+    -- every column is there, blank or not
+    abbrev There : Outcome → Type 0
+    There o = (o ≡ outcome.Complete shape) ⊎ (o ≡ outcome.Blank shape)
+
+    in-parts : (o : Outcome) → There o → JudgesFormed shape (j .map) image s after bench benched o
+        → Gives (formedRules shape (j .map) s bench (take (stripeOf shape) after)) pass × InParts shape (j .map) image s after bench benched o
+    in-parts o (inl e) h = let q : JudgesFormed shape (j .map) image s after bench benched (outcome.Complete shape) = rw e at h in (q .told, rw e (q .leaves))
+    in-parts o (inr e) h = let q : JudgesFormed shape (j .map) image s after bench benched (outcome.Blank shape) = rw e at h in (q .told, rw e (q .leaves))
+
+    pub tellable : (room : ℕ) → 102400 ≤ room → There (j .outcome) → Tellable shape (j .map) after benched room
+    tellable room most there =
         let g = formed-good (t .formed) in
-        let judged : JudgesFormed shape (j .map) image s after bench benched (outcome.Complete shape) = rw e at (t .judged) in
-        let (few, r) = passed-first (judged .told) in
+        let (passed, l) = in-parts (j .outcome) there (t .judged) in
+        let (few, r) = passed-first passed in
         let (long, q) = passed-first r in
         let (spare, _) = passed-first q in
-        let p = judged .leaves .parts in
+        let p = l .parts in
         let size = p .read .size ∙ length-take-le (stripeOf shape) s (omega arith) in
-        let double = bench-size shape (j .map) _ _ _ (outcome.Complete shape) (p .benches) ∙ length-take-le (benchOf shape) bench (omega arith) in
+        let double = bench-size shape (j .map) _ _ _ (j .outcome) (p .benches) ∙ length-take-le (benchOf shape) bench (omega arith) in
         record {
           held = record { shape = g .shape; stripe = size; room = double; truth = formed-truth (t .formed); clear = not-stray g; few = omega arith };
           long = whole (stripeOf shape) after size;
@@ -128,6 +141,15 @@ module _ {image s after bench benched : List ℕ} where
       → t ≡ textOf (j .outcome) (j .map) after benched → Reports image s after bench benched x y r
   reports-start j h w l e = record { judgement = j; judged = h; within = l; text = w .text ∙ e; rest = w .rest }
 
+  -- the report where every column is there, of a stripe that is not blank, and of one that is
+  pub reports-complete : {x y : List ℕ} {r : ℕ} (j : Judgement) (shape : Shape) → JudgesImage image s after bench benched j → j .outcome ≡ outcome.Complete shape
+      → Wrote x y 0 r (completeText shape (j .map) after benched false) → r ≤ length x → Reports image s after bench benched x y r
+  reports-complete j shape h e w l = reports-start j h w (omega (arith, w .size)) (rw e refl)
+
+  pub reports-blank : {x y : List ℕ} {r : ℕ} (j : Judgement) (shape : Shape) → JudgesImage image s after bench benched j → j .outcome ≡ outcome.Blank shape
+      → Wrote x y 0 r (completeText shape (j .map) after benched true) → r ≤ length x → Reports image s after bench benched x y r
+  reports-blank j shape h e w l = reports-start j h w (omega (arith, w .size)) (rw e refl)
+
 -- parts that begin the buffers, as they are lent
 module _ (shape : Shape) (map : Map) (s bench : List ℕ) (n c : ℕ) (e : n ≡ stripeOf shape) (d : c ≡ benchOf shape) where
   u : n - 0 ≡ stripeOf shape
@@ -140,6 +162,7 @@ module _ (shape : Shape) (map : Map) (s bench : List ℕ) (n c : ℕ) (e : n ≡
       → Held (shape .m) (shape .k) (shape .b) map (take (n - 0) (drop 0 s)) (take (c - 0) (drop 0 bench))
   held-lent h = rw (u, v) h
 
-  pub text-lent : shapeLine (shape .m) (shape .k) (shape .b) ++ columnLines (shape .k + 2) (map .places) (shown (shape .m) (shape .b) (map .places) (take (n - 0) (drop 0 s)) (take (c - 0) (drop 0 bench))) ++ answerLine 0
-      ≡ completeText shape map s bench
-  text-lent = rw (u, v)
+  pub text-lent : (blank : Bool)
+      → shapeLine (shape .m) (shape .k) (shape .b) ++ columnLines (shape .k + 2) (map .places) (shown (shape .m) (shape .b) (map .places) (take (n - 0) (drop 0 s)) (take (c - 0) (drop 0 bench))) ++ doneLine blank
+      ≡ completeText shape map s bench blank
+  text-lent blank = rw (u, v)

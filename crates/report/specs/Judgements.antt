@@ -6,6 +6,7 @@
 --   stripeTooShort, benchTooShort    2 and 3: the lent buffers are too short
 --   formedRules                 the refusals of a well-formed image, in order: 4, 2, 3, 5
 --   Complete                    the bench holds the absent columns of a valid stripe that agrees with the present ones
+--   Benches                     the bench after the judgement; where every column is there, whether that valid stripe is blank decides the outcome
 --   JudgesParts                 what is judged in a stripe and a bench of exactly the lengths that the shape asks for
 --   JudgesFormed                what is judged of a well-formed image: the parts that are written begin the lent buffers, and the rest of them stays
 --   JudgesImage                 what is judged of an image: 10 first, then what its contents say, then the judgement of a well-formed one
@@ -15,6 +16,7 @@ use mathlib.Core.List.{List, [], _∷_}
 use Prim.Native.Nat.{ℕ, _≤_, _<_}
 use lib.ListN.{length, take, drop}
 use Rattle.parity.specs.Shape.{stripeLength, benchLength}
+use Rattle.parity.specs.Stripe.{Blank}
 use Rattle.inputs.specs.declared.maps.Map.{Map}
 use Rattle.inputs.specs.declared.shapes.Refusal.{Refusal}
 use Rattle.inputs.specs.declared.shapes.Refusal.the-variants as refusal
@@ -39,6 +41,7 @@ Formed image shape map = ContentsOf image (record { answer = read.Shape (shape .
 
 abbrev pub verdictOf : Outcome → Verdict
 verdictOf (outcome.Complete shape) = pass
+verdictOf (outcome.Blank shape) = pass
 verdictOf (outcome.Ambiguous shape) = refuse refusal.Ambiguous
 verdictOf (outcome.Contradicted shape) = refuse refusal.Contradicted
 verdictOf (outcome.Refused f) = refuse f
@@ -52,9 +55,10 @@ pub record Complete (shape : Shape) (map : Map) (s before after : List ℕ) : Ty
   pub second : ℕ
   pub restored : RestoredFrom (shape .m) (shape .k) (shape .b) (map .places) s before after count first second
 
--- the bench after the judgement of a stripe s that has been read
+-- the bench after the judgement of a stripe s that has been read. With at most two columns absent one valid stripe alone agrees, so there is one to be blank or not
 abbrev pub Benches : Shape → Map → List ℕ → List ℕ → List ℕ → Outcome → Type 0
-Benches shape map s before after (outcome.Complete x) = (x ≡ shape) × Complete shape map s before after
+Benches shape map s before after (outcome.Complete x) = (x ≡ shape) × (c : Complete shape map s before after) × (Blank (shape .m) (shape .k) (shape .b) (c .restored .stripe) → ⊥)
+Benches shape map s before after (outcome.Blank x) = (x ≡ shape) × (c : Complete shape map s before after) × Blank (shape .m) (shape .k) (shape .b) (c .restored .stripe)
 Benches shape map s before after (outcome.Contradicted x) = (x ≡ shape) × (after ≡ before)
 Benches shape map s before after (outcome.Ambiguous x) = ⊥
 Benches shape map s before after (outcome.Refused f) = ⊥
@@ -90,6 +94,7 @@ pub record Unwritten (s after bench benched : List ℕ) : Type 0 where
 
 abbrev pub Leaves : Shape → Map → List ℕ → List ℕ → List ℕ → List ℕ → List ℕ → Outcome → Type 0
 Leaves shape map image s after bench benched (outcome.Complete x) = InParts shape map image s after bench benched (outcome.Complete x)
+Leaves shape map image s after bench benched (outcome.Blank x) = InParts shape map image s after bench benched (outcome.Blank x)
 Leaves shape map image s after bench benched (outcome.Contradicted x) = InParts shape map image s after bench benched (outcome.Contradicted x)
 Leaves shape map image s after bench benched (outcome.Ambiguous x) = (x ≡ shape) × Unwritten s after bench benched
 Leaves shape map image s after bench benched (outcome.Refused f) = ((f ≡ refusal.StripeLength) ⊎ (f ≡ refusal.BenchLength)) × Unwritten s after bench benched

@@ -4,6 +4,7 @@
 --   columnLine t there bytes  the column's number; `present` or `restored`; its bytes in lower-case hex
 --   columnLines n map f       the lines of columns 0 to n - 1, whose bytes are f 0, f 1, …
 --   answerLine n              `answer n`
+--   doneLine blank            `answer 0`; of a blank stripe `answer 0 blank`
 use mathlib.Core.Bool.{Bool, true, false}
 use mathlib.Core.List.{List, [], _∷_, _++_}
 use Prim.Native.Nat.{ℕ, zero, suc}
@@ -20,6 +21,10 @@ shapeWord = 115 ∷ 104 ∷ 97 ∷ 112 ∷ 101 ∷ 32 ∷ []
 -- "answer "
 abbrev pub answerWord : List ℕ
 answerWord = 97 ∷ 110 ∷ 115 ∷ 119 ∷ 101 ∷ 114 ∷ 32 ∷ []
+
+-- "blank", and the end of the line
+abbrev pub blankWord : List ℕ
+blankWord = 98 ∷ 108 ∷ 97 ∷ 110 ∷ 107 ∷ 10 ∷ []
 
 -- " present ", " restored "
 abbrev pub stateWord : Bool → List ℕ
@@ -38,3 +43,7 @@ columnLines (suc n) map f = columnLines n map f ++ columnLine n (present map n) 
 
 abbrev pub answerLine : ℕ → List ℕ
 answerLine n = answerWord ++ field n 10
+
+abbrev pub doneLine : Bool → List ℕ
+doneLine true = answerWord ++ field 0 32 ++ blankWord
+doneLine false = answerLine 0

@@ -5,16 +5,20 @@ use evenodd::Refusal;
 use evenodd::Restored;
 use image::Read;
 ghost use mathlib.Core.Path.{_≡_};
+ghost use mathlib.Core.Logic.{_↔_};
+ghost use mathlib.Core.Bool.{true};
 ghost use Prim.Native.Nat.{_≤_};
 ghost use lib.ListN.{length};
 ghost use Rattle.parity.specs.Shape.{stripeLength, benchLength};
 ghost use Rattle.parity.specs.Presence.{absences};
+ghost use Rattle.report.specs.Shown.{ShownZeros, Held};
 ghost use Rattle.report.specs.Judgements.{JudgesParts, JudgesFormed, JudgesImage, Formed};
 
-// What came of an image: every column is there, in the stripe or in the bench; three or more are absent; those that are present contradict
-// each other; or the image is refused without a shape.
+// What came of an image: every column is there, in the stripe or in the bench; so it is, and every byte of them is zero; three or more are absent; those that
+// are present contradict each other; or the image is refused without a shape.
 pub enum Outcome {
     Complete(Shape),
+    Blank(Shape),
     Ambiguous(Shape),
     Contradicted(Shape),
     Refused(Refusal),
@@ -24,6 +28,20 @@ pub enum Outcome {
 pub struct Judgement {
     pub outcome: Outcome,
     pub map: Map,
+}
+
+// Whether the stripe is blank now that it is restored: every byte of each column is zero, from where show finds it.
+fn is_blank<'a>(shape: Shape, map: Map, stripe: &'a [u8], bench: &'a [u8]) -> bool
+    requires { ⌜ Held (shape .m) (shape .k) (shape .b) map (now stripe) (now bench) ⌝ }
+    ensures { λ r. ⌜ (r ≡ true) ↔ ShownZeros (shape .m) (shape .k) (shape .b) (map .places) (now (stripe .entry)) (now (bench .entry)) ⌝ }
+{
+    for t in 0..shape.k + 2 {
+        let column = evenodd::show(shape.m, shape.k, shape.b, map, stripe, bench, t);
+        if !cells::is_zero(column) {
+            return false;
+        }
+    }
+    true
 }
 
 // Reads a well-formed image into a stripe of its length, and restores into a bench of its length.
@@ -37,7 +55,13 @@ fn judge_parts(image: &[u8], shape: Shape, map: Map, stripe: &mut [u8], bench: &
             count: _,
             first: _,
             second: _,
-        } => Outcome::Complete(shape),
+        } => {
+            if is_blank(shape, map, stripe, bench) {
+                Outcome::Blank(shape)
+            } else {
+                Outcome::Complete(shape)
+            }
+        }
         Restored::Refused(_) => Outcome::Contradicted(shape),
     }
 }

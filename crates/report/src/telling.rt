@@ -4,6 +4,7 @@ use crate::judging::judge_image;
 use crate::writing::Shape;
 use crate::writing::put_answer;
 use crate::writing::put_columns;
+use crate::writing::put_done;
 use crate::writing::put_shape;
 use evenodd::Map;
 use evenodd::Refusal;
@@ -21,23 +22,24 @@ fn put_refused(out: &mut [u8], shape: Shape, refusal: Refusal) -> usize
     put_answer(out, next, refusal.number())
 }
 
-// Writes the shape, the columns and the answer 0.
+// Writes the shape, the columns and the answer 0, of a blank stripe with that word.
 fn put_complete<'a>(
     out: &mut [u8],
     shape: Shape,
     map: Map,
     stripe: &'a [u8],
     bench: &'a [u8],
+    blank: bool,
 ) -> usize
     requires { ⌜ Tellable shape map (now stripe) (now bench) (length (now out)) ⌝ }
-    ensures { λ r. ⌜ Wrote (now (out .entry)) (now (out .exit)) 0 r (completeText shape map (now (stripe .entry)) (now (bench .entry))) × (r ≤ length (now (out .entry))) ⌝ }
+    ensures { λ r. ⌜ Wrote (now (out .entry)) (now (out .exit)) 0 r (completeText shape map (now (stripe .entry)) (now (bench .entry)) blank) × (r ≤ length (now (out .entry))) ⌝ }
 {
     let column = (shape.m - 1) * shape.b;
     let size = (shape.k + 2) * column;
     let double = 2 * column;
     let next = put_shape(out, 0, shape);
     let last = put_columns(out, next, shape, map, &stripe[0..size], &bench[0..double]);
-    put_answer(out, last, 0)
+    put_done(out, last, blank)
 }
 
 // Reads, restores and judges one image, and writes the report at the start of `out`; the answer is its length. The stripe and the bench are
@@ -50,7 +52,8 @@ pub fn report(image: &[u8], stripe: &mut [u8], bench: &mut [u8], out: &mut [u8])
     let map = judged.map;
     let outcome = judged.outcome;
     match outcome {
-        Outcome::Complete(shape) => put_complete(out, shape, map, stripe, bench),
+        Outcome::Complete(shape) => put_complete(out, shape, map, stripe, bench, false),
+        Outcome::Blank(shape) => put_complete(out, shape, map, stripe, bench, true),
         Outcome::Ambiguous(shape) => put_refused(out, shape, Refusal::Ambiguous),
         Outcome::Contradicted(shape) => put_refused(out, shape, Refusal::Contradicted),
         Outcome::Refused(f) => put_answer(out, 0, f.number()),

@@ -6,7 +6,7 @@ ghost use Rattle.parity.specs.Shape.{columnLength};
 ghost use Rattle.parity.specs.Presence.{present};
 ghost use Rattle.text.specs.Text.{Wrote};
 ghost use Rattle.report.specs.Shown.{shown, Held};
-ghost use Rattle.report.specs.Lines.{field, shapeLine, answerLine, stateWord, columnLine, columnLines};
+ghost use Rattle.report.specs.Lines.{field, shapeLine, answerLine, doneLine, stateWord, columnLine, columnLines};
 
 // The three numbers of a shape.
 pub struct Shape {
@@ -42,6 +42,18 @@ pub(crate) fn put_answer(out: &mut [u8], at: usize, number: u8) -> usize
 {
     let next = text::put_word(out, at, b"answer ");
     put_field(out, next, number as usize, 10)
+}
+
+// Writes the line of the answer 0, of a stripe that is blank or is not.
+pub(crate) fn put_done(out: &mut [u8], at: usize, blank: bool) -> usize
+    requires { ⌜ at + 15 ≤ length (now out) ⌝ }
+    ensures { λ r. ⌜ Wrote (now (out .entry)) (now (out .exit)) at r (doneLine blank) × (r ≤ at + 15) ⌝ }
+{
+    if blank {
+        text::put_word(out, at, b"answer 0 blank\n")
+    } else {
+        put_answer(out, at, 0)
+    }
 }
 
 // Writes whether a column was there or is restored.

@@ -73,16 +73,18 @@ pub fn encode_line(
 }
 
 fn say_checked(out: &mut [u8], at: usize, answer: Checked) -> usize
-    ensures { λ r. ⌜ (at ≤ r) × (r ≤ at + 15) ⌝ }
+    ensures { λ r. ⌜ (at ≤ r) × (r ≤ at + 20) ⌝ }
 {
+    let found = answer.found() as usize;
     match answer {
-        Checked::Intact => say_three(out, at, 0, 0, 0),
-        Checked::Broken { rows, diagonals } => say_three(out, at, 0, rows, diagonals),
-        Checked::Refused(f) => say_three(out, at, f.number() as usize, 0, 0),
+        Checked::Intact => say_four(out, at, 0, 0, 0, found),
+        Checked::Blank => say_four(out, at, 0, 0, 0, found),
+        Checked::Broken { rows, diagonals } => say_four(out, at, 0, rows, diagonals, found),
+        Checked::Refused(f) => say_four(out, at, f.number() as usize, 0, 0, found),
     }
 }
 
-// Checks: the answer and the two counts.
+// Checks: the answer, the two counts and what was found.
 pub fn check_line(
     out: &mut [u8],
     at: usize,
@@ -92,7 +94,7 @@ pub fn check_line(
     b: usize,
     stripe: &[u8],
 ) -> usize
-    ensures { λ r. ⌜ (at ≤ r) × (r ≤ at + (length (now (name .entry)) + 22)) ⌝ }
+    ensures { λ r. ⌜ (at ≤ r) × (r ≤ at + (length (now (name .entry)) + 27)) ⌝ }
 {
     let first = say_head(out, at, name, b" check");
     let answer = evenodd::check(m, k, b, stripe);
@@ -167,6 +169,7 @@ fn say_located(out: &mut [u8], at: usize, answer: Located) -> usize
     let column = answer.column();
     match answer {
         Located::Intact => say_three(out, at, 0, found, column),
+        Located::Blank => say_three(out, at, 0, found, column),
         Located::Column(_) => say_three(out, at, 0, found, column),
         Located::Refused(f) => say_three(out, at, f.number() as usize, found, column),
     }

@@ -26,6 +26,9 @@ enum-told c = search needs
 enum-told-2 : tie.Need-enum-told-2
 enum-told-2 c = search needs
 
+enum-told-3 : tie.Need-enum-told-3
+enum-told-3 c = search needs
+
 enum-known-answer : tie.Need-enum-known-answer
 enum-known-answer c = search needs
 
@@ -46,6 +49,12 @@ returns-2 c =
 
 returns-3 : tie.Need-returns-3
 returns-3 c =
+    let at = c .before .before in
+    let z = at .before .before in
+    record { answer = z .locate .result; meets = z .locate .ensures; found = at .before .found .ensures; column = at .column .ensures; number = number-of (c .enum-told3 .given .1) }
+
+returns-4 : tie.Need-returns-4
+returns-4 c =
     let at = c .before .before .before .before in
     let z = at .before .before in
     record { answer = z .locate .result; meets = z .locate .ensures; found = at .before .found .ensures; column = at .column .ensures; number = c .number .ensures ∙ number-of (c .before .before .answer .given .1) }
@@ -59,8 +68,10 @@ oarwillow-locate-spec =
     column-requires
     enum-told
     enum-told-2
+    enum-told-3
     enum-known-answer
     number-requires
     returns
     returns-2
-    returns-3)
+    returns-3
+    returns-4)

@@ -1,20 +1,31 @@
--- `evenodd::checks::check` meets its contract: the tests, and the counts of the loops below.
-use mathlib.Core.Path.{sym}
+-- `evenodd::checks::check` meets its contract: the tests, whether the stripe is blank, and the counts of the loops below.
+use mathlib.Core.Path.{sym, _∙_}
+use mathlib.Core.Bool.{true≢false}
 use mathlib.Core.List.{[]}
 use lib.ListN.{length}
+use native.Mathlib.Omega.{arith}
 use denote.Ref.{now}
+use Rattle.parity.proofs.Bytes.{zeros-blank}
+use Rattle.parity.proofs.Theorems.{blank-zeros}
+use Rattle.cells.proofs.Tells.{zeros-at}
+use Rattle.inputs.specs.Refusals.{pass, Gives}
 use Rattle.inputs.specs.Rules.{stripeRules}
 use Rattle.inputs.proofs.Rules.{passes-not}
 use Rattle.inputs.proofs.Tests.{told-refused, Numbers, stripe-good}
 use Rattle.inputs.proofs.Stripe.{stripe-passed}
-use Rattle.evenodd.proofs.Laid.{laid}
-use Rattle.evenodd.proofs.Checked.{says-checks}
+use Rattle.evenodd.proofs.Laid.{laid, parity-inside}
+use Rattle.evenodd.proofs.Checked.{blank-checks, says-checks}
 use Rattle.evenodd.proofs.checks.check.Statement.{statement}
 use Rattle.evenodd.proofs.checks.check.Tie as tie
 
 good : (c : tie.After-known-told) → let a = c .before .before .before .before .before .args in
     Numbers (a .m) (a .k) (a .b) (length (now (a .stripe))) (c .before .judged .given .0 .0)
 good c = let at = c .before .before .before in stripe-good _ _ _ _ (at .judge-stripe .result) (at .judge-stripe .ensures) (c .before .judged .given .1)
+
+-- so the tests pass
+passed : (c : tie.After-known-told) → let a = c .before .before .before .before .before .args in
+    Gives (stripeRules (a .m) (a .k) (a .b) (length (now (a .stripe)))) pass
+passed c = let a = c .before .before .before .before .before .args in stripe-passed (a .m) (a .k) (a .b) (length (now (a .stripe))) (good c .shape) (good c .stripe)
 
 judge-stripe-requires : tie.Need-judge-stripe-requires
 judge-stripe-requires c κs = tt
@@ -34,18 +45,30 @@ returns c =
     let a = at .before .before .args in
     record { told = told-refused (stripeRules (a .m) (a .k) (a .b) (length (now (a .stripe)))) [] (at .judge-stripe .result) (at .judge-stripe .ensures .told) (c .before .enum-told .given .1) (c .refusal .ensures); counted = λ e. absurd (passes-not _ (sym e)) }
 
+mul-is-blank : tie.Need-mul-is-blank
+mul-is-blank c = let n = good c in omega (arith, parity-inside (n .shape) (n .column) (n .stripe) .1)
+
+is-blank-requires : tie.Need-is-blank-requires
+is-blank-requires c κs = let n = good c in parity-inside (n .shape) (n .column) (n .stripe) .0
+
+returns-2 : tie.Need-returns-2
+returns-2 c =
+    let z = c .before .before in
+    let a = z .before .before .before .before .before .args in
+    blank-checks (a .m) (a .k) (a .b) (now (a .stripe)) (passed z) (zeros-blank (a .m) (a .k) (a .b) (now (a .stripe)) (zeros-at (c .before .is-blank .ensures .0 (c .if1 .taken))))
+
 count-broken-requires : tie.Need-count-broken-requires
-count-broken-requires c κs = let n = good c in laid (n .shape) (n .column) (n .stripe)
+count-broken-requires c κs = let n = good (c .before .before) in laid (n .shape) (n .column) (n .stripe)
 
 told-requires : tie.Need-told-requires
 told-requires c κs = tt
 
-returns-2 : tie.Need-returns-2
-returns-2 c =
-    let a = c .before .before .before .before .before .before .before .args in
-    let n = good (c .before .before) in
+returns-3 : tie.Need-returns-3
+returns-3 c =
+    let z = c .before .before .before .before in
+    let a = z .before .before .before .before .before .args in
     let r = c .before .count-broken .ensures in
-    says-checks (a .m) (a .k) (a .b) (now (a .stripe)) (stripe-passed (a .m) (a .k) (a .b) (length (now (a .stripe))) (n .shape) (n .stripe)) (c .before .count-broken .result) (r .0) (r .1) (c .told .result) (c .told .ensures)
+    says-checks (a .m) (a .k) (a .b) (now (a .stripe)) (passed z) (λ blank. true≢false (sym (c .before .before .before .is-blank .ensures .1 (record { each = λ x h. blank-zeros (a .m) (a .k) (a .b) (now (a .stripe)) (good z .shape) (good z .stripe) blank x })) ∙ c .before .before .if1 .left)) (c .before .count-broken .result) (r .0) (r .1) (c .told .result) (c .told .ensures)
 
 pub check-spec : {M : Type 1} → statement M
 check-spec =
@@ -56,6 +79,9 @@ check-spec =
     enum-told
     refusal-requires
     returns
+    mul-is-blank
+    is-blank-requires
+    returns-2
     count-broken-requires
     told-requires
-    returns-2)
+    returns-3)

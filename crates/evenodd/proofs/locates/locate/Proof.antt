@@ -1,15 +1,19 @@
--- `evenodd::locates::locate` meets its contract: the tests, and what each suspect says of valid stripes.
-use mathlib.Core.Path.{subst}
+-- `evenodd::locates::locate` meets its contract: the tests, whether the stripe is blank, and what each suspect says of valid stripes.
+use mathlib.Core.Path.{sym, subst, _∙_}
+use mathlib.Core.Bool.{true≢false}
 use mathlib.Core.List.{[], _∷_}
 use lib.ListN.{length}
 use native.Mathlib.Omega.{arith}
 use denote.Ref.{now}
 use Rattle.parity.specs.Stripe.{Stripe}
+use Rattle.parity.proofs.Bytes.{zeros-blank}
+use Rattle.parity.proofs.Theorems.{blank-zeros}
+use Rattle.cells.proofs.Tells.{zeros-at}
 use Rattle.locating.specs.Locating.{Located}
 use Rattle.inputs.specs.Rules.{unmendable, stripeRules}
 use Rattle.inputs.proofs.Tests.{told-refused, Numbers, stripe-good}
-use Rattle.evenodd.proofs.Laid.{laid}
-use Rattle.evenodd.proofs.Located.{locate-refused, locate-nothing, locate-column, locate-nobody}
+use Rattle.evenodd.proofs.Laid.{laid, parity-inside}
+use Rattle.evenodd.proofs.Located.{locate-refused, locate-blank, locate-intact, locate-column, locate-nobody}
 use Rattle.evenodd.proofs.locates.locate.Statement.{statement}
 use Rattle.evenodd.proofs.locates.locate.Tie as tie
 
@@ -40,9 +44,21 @@ returns c =
     locate-refused (told-refused (stripeRules (a .m) (a .k) (a .b) (length (now (a .stripe)))) (unmendable (a .m) (a .k) (a .b) (now (a .stripe)) ∷ [])
     (at .judge-stripe .result) (at .judge-stripe .ensures .told) (c .before .enum-told .given .1) (c .refusal .ensures))
 
+mul-is-blank : tie.Need-mul-is-blank
+mul-is-blank c = let n = good c in omega (arith, parity-inside (n .shape) (n .column) (n .stripe) .1)
+
+is-blank-requires : tie.Need-is-blank-requires
+is-blank-requires c κs = let n = good c in parity-inside (n .shape) (n .column) (n .stripe) .0
+
+returns-2 : tie.Need-returns-2
+returns-2 c =
+    let z = c .before .before in
+    let a = z .before .before .before .before .before .args in
+    locate-blank (a .m) (a .k) (a .b) (good z .shape) (now (a .stripe)) (stripe z) (zeros-blank (a .m) (a .k) (a .b) (now (a .stripe)) (zeros-at (c .before .is-blank .ensures .0 (c .if1 .taken))))
+
 locate-requires : tie.Need-locate-requires
 locate-requires c κs =
-    let n = good c in
+    let n = good (c .before .before) in
     record { laid = laid (n .shape) (n .column) (n .stripe); odd = n .shape .value .odd; prime = n .shape .value .prime }
 
 enum-told-2 : tie.Need-enum-told-2
@@ -54,21 +70,22 @@ enum-told-3 c = c .match2 .keys2
 enum-known-u : tie.Need-enum-known-u
 enum-known-u c = c .match2 .keys3
 
-returns-2 : tie.Need-returns-2
-returns-2 c =
-    let z = c .before .before .before in
-    let a = z .before .before .before .before .before .args in
-    locate-nothing (a .m) (a .k) (a .b) (good z .shape) (now (a .stripe)) (stripe z) (subst (Located (a .m) (a .k) (a .b) (now (a .stripe))) (c .enum-told2 .given .1) (c .before .before .locate .ensures))
-
 returns-3 : tie.Need-returns-3
 returns-3 c =
-    let z = c .before .before .before in
+    let z = c .before .before .before .before .before in
     let a = z .before .before .before .before .before .args in
-    locate-nobody (a .m) (a .k) (a .b) (good z .shape) (now (a .stripe)) (stripe z) (subst (Located (a .m) (a .k) (a .b) (now (a .stripe))) (c .enum-told3 .given .1) (c .before .before .locate .ensures) .1)
+    locate-intact (a .m) (a .k) (a .b) (good z .shape) (now (a .stripe)) (stripe z) (subst (Located (a .m) (a .k) (a .b) (now (a .stripe))) (c .enum-told2 .given .1) (c .before .before .locate .ensures))
+    (λ blank. true≢false (sym (c .before .before .before .before .is-blank .ensures .1 (record { each = λ x h. blank-zeros (a .m) (a .k) (a .b) (now (a .stripe)) (good z .shape) (good z .stripe) blank x })) ∙ c .before .before .before .if1 .left))
 
 returns-4 : tie.Need-returns-4
 returns-4 c =
-    let z = c .before .before .before .before in
+    let z = c .before .before .before .before .before in
+    let a = z .before .before .before .before .before .args in
+    locate-nobody (a .m) (a .k) (a .b) (good z .shape) (now (a .stripe)) (stripe z) (subst (Located (a .m) (a .k) (a .b) (now (a .stripe))) (c .enum-told3 .given .1) (c .before .before .locate .ensures) .1)
+
+returns-5 : tie.Need-returns-5
+returns-5 c =
+    let z = c .before .before .before .before .before .before in
     let a = z .before .before .before .before .before .args in
     let found = subst (Located (a .m) (a .k) (a .b) (now (a .stripe))) (c .before .u .given .1) (c .before .before .before .locate .ensures) in
     locate-column (a .m) (a .k) (a .b) (good z .shape) (now (a .stripe)) (stripe z) _ (found .0) (found .1) (found .2)
@@ -82,10 +99,13 @@ locate-spec =
     enum-told
     refusal-requires
     returns
+    mul-is-blank
+    is-blank-requires
+    returns-2
     locate-requires
     enum-told-2
     enum-told-3
     enum-known-u
-    returns-2
     returns-3
-    returns-4)
+    returns-4
+    returns-5)

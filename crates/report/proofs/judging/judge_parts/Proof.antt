@@ -1,5 +1,8 @@
--- `report::judging::judge_parts` meets its contract: the stripe is read, and restore either fills the bench or refuses with 5, since nothing else is left.
-use Rattle.report.proofs.Judged.{read-fills, parts-complete, parts-contradicted}
+-- `report::judging::judge_parts` meets its contract: the stripe is read, and restore either fills the bench, so that every column can be looked at, or refuses with
+-- 5, since nothing else is left.
+use mathlib.Core.Path.{sym, _∙_}
+use mathlib.Core.Bool.{true≢false}
+use Rattle.report.proofs.Judged.{read-fills, parts-held, parts-blank, parts-complete, parts-contradicted}
 use borrow.Author.Needs.{needs}
 use Rattle.report.proofs.judging.judge_parts.Statement.{statement}
 use Rattle.report.proofs.judging.judge_parts.Tie as tie
@@ -13,6 +16,13 @@ restore-requires c κs = tt
 enum-told : tie.Need-enum-told
 enum-told c = c .match .keys1
 
+is-blank-requires : tie.Need-is-blank-requires
+is-blank-requires c κs =
+    let e = c .before .before .enum-told .given .1 in
+    let z = c .before .before .before .before .before .before .before .before .before .before .before .before .before .before .before .before in
+    let filled = read-fills (z .pre .0) (z .pre .2) (c .before .before .before .before .before .before .before .before .before .before .before .read .result) (c .before .before .before .before .before .before .before .before .before .before .before .read .ensures) in
+    parts-held (z .pre .0) filled (rw e at (c .before .before .before .before .before .before .restore .ensures)) (z .pre .1) (z .pre .2) (z .pre .3)
+
 enum-told-2 : tie.Need-enum-told-2
 enum-told-2 c = c .match .keys2
 
@@ -24,9 +34,10 @@ same-length-2 c = search needs
 
 returns : tie.Need-returns
 returns c =
-    let z = c .before .before .before .before .before .before .before .before .before .before .before .before .before .before in
-    let filled = read-fills (z .pre .0) (z .pre .2) (c .before .before .before .before .before .before .before .before .before .read .result) (c .before .before .before .before .before .before .before .before .before .read .ensures) in
-    parts-complete (z .pre .0) filled (rw (c .enum-told .given .1) at (c .before .before .before .before .restore .ensures))
+    let e = c .before .before .before .before .enum-told .given .1 in
+    let z = c .before .before .before .before .before .before .before .before .before .before .before .before .before .before .before .before .before .before in
+    let filled = read-fills (z .pre .0) (z .pre .2) (c .before .before .before .before .before .before .before .before .before .before .before .before .before .read .result) (c .before .before .before .before .before .before .before .before .before .before .before .before .before .read .ensures) in
+    parts-blank (z .pre .0) filled (rw e at (c .before .before .before .before .before .before .before .before .restore .ensures)) (z .pre .1) (c .before .is-blank .ensures .0 (c .if1 .taken))
 
 same-length-3 : tie.Need-same-length-3
 same-length-3 c = search needs
@@ -36,6 +47,19 @@ same-length-4 c = search needs
 
 returns-2 : tie.Need-returns-2
 returns-2 c =
+    let e = c .before .before .before .before .enum-told .given .1 in
+    let z = c .before .before .before .before .before .before .before .before .before .before .before .before .before .before .before .before .before .before in
+    let filled = read-fills (z .pre .0) (z .pre .2) (c .before .before .before .before .before .before .before .before .before .before .before .before .before .read .result) (c .before .before .before .before .before .before .before .before .before .before .before .before .before .read .ensures) in
+    parts-complete (z .pre .0) filled (rw e at (c .before .before .before .before .before .before .before .before .restore .ensures)) (z .pre .1) (λ blank. true≢false (sym (c .before .is-blank .ensures .1 blank) ∙ c .if1 .left))
+
+same-length-5 : tie.Need-same-length-5
+same-length-5 c = search needs
+
+same-length-6 : tie.Need-same-length-6
+same-length-6 c = search needs
+
+returns-3 : tie.Need-returns-3
+returns-3 c =
     let z = c .before .before .before .before .before .before .before .before .before .before .before .before .before .before in
     let filled = read-fills (z .pre .0) (z .pre .2) (c .before .before .before .before .before .before .before .before .before .read .result) (c .before .before .before .before .before .before .before .before .before .read .ensures) in
     parts-contradicted (z .pre .0) filled (z .pre .2) (z .pre .3) (z .pre .1) _ (rw (c .enum-told2 .given .1) at (c .before .before .before .before .restore .ensures))
@@ -47,10 +71,14 @@ judge-parts-spec =
     read-requires
     restore-requires
     enum-told
+    is-blank-requires
     enum-told-2
     same-length
     same-length-2
     returns
     same-length-3
     same-length-4
-    returns-2)
+    returns-2
+    same-length-5
+    same-length-6
+    returns-3)

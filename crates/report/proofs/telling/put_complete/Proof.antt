@@ -1,4 +1,4 @@
--- `report::telling::put_complete` meets its contract: the shape, the columns and the answer, one after another; the parts that are lent have the lengths that the shape asks for.
+-- `report::telling::put_complete` meets its contract: the shape, the columns and the answer's line, one after another; the parts that are lent have the lengths that the shape asks for.
 use mathlib.Core.Path.{refl}
 use Prim.Native.Nat.{_+_, _*_, _-_}
 use denote.Ref.{now}
@@ -62,8 +62,8 @@ put-columns-requires c κs =
     let p = c .before .before .before .before .before .before .before .before .before .before .before .before .before .pre in
     (held-lent (a .shape) (a .map) (now (a .stripe)) (now (a .bench)) ((a .shape .k + 2) * column) (2 * column) refl refl (p .held), omega (arith, p .fits, c .before .before .before .before .before .put-shape .ensures .1, c .before .before .before .before .before .put-shape .ensures .0 .size))
 
-put-answer-requires : tie.Need-put-answer-requires
-put-answer-requires c κs = search needs
+put-done-requires : tie.Need-put-done-requires
+put-done-requires c κs = search needs
 
 same-length : tie.Need-same-length
 same-length c = search needs
@@ -76,8 +76,8 @@ returns c =
     let p = c .before .before .before .before .before .before .before .before .before .before .before .before .before .before .before .before .before .before .before .before .pre in
     let first = c .before .before .before .before .before .before .before .before .before .before .before .before .put-shape .ensures in
     let second = c .before .before .before .before .before .before .put-columns .ensures in
-    let third = c .before .before .put-answer .ensures in
-    (wrote-same (wrote-then (wrote-then (first .0) (second .0)) (third .0)) (text-lent (a .shape) (a .map) (now (a .stripe)) (now (a .bench)) ((a .shape .k + 2) * column) (2 * column) refl refl), omega (arith, p .fits, first .1, second .1, third .1))
+    let third = c .before .before .put-done .ensures in
+    (wrote-same (wrote-then (wrote-then (first .0) (second .0)) (third .0)) (text-lent (a .shape) (a .map) (now (a .stripe)) (now (a .bench)) ((a .shape .k + 2) * column) (2 * column) refl refl (a .blank)), omega (arith, p .fits, first .1, second .1, third .1))
 
 pub put-complete-spec : {M : Type 1} → statement M
 put-complete-spec =
@@ -96,6 +96,6 @@ put-complete-spec =
     part-put-columns-start-2
     part-put-columns-end-2
     put-columns-requires
-    put-answer-requires
+    put-done-requires
     same-length
     returns)

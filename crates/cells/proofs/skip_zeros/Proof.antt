@@ -1,13 +1,13 @@
--- `locating::skip_zeros` meets its contract. The invariant: the bytes before j are zero.
+-- `cells::skip_zeros` meets its contract. The invariant: the bytes before j are zero.
 use mathlib.Core.Path.{_≡_, sym, ap, _∙_}
 use Prim.Native.Nat.{ℕ, _+_, _-_, _≤_, _<_}
 use lib.ListN.{length, getD}
 use denote.Ref.{now}
 use Rattle.cells.proofs.Parts.{part-at, part-size, by-order}
 use borrow.Author.Needs.{needs}
 use native.Mathlib.Omega.{arith}
-use Rattle.locating.proofs.skip_zeros.Statement.{statement}
-use Rattle.locating.proofs.skip_zeros.Tie as tie
+use Rattle.cells.proofs.skip_zeros.Statement.{statement}
+use Rattle.cells.proofs.skip_zeros.Tie as tie
 
 abbrev Inv-loop : tie.InvT-loop
 Inv-loop x j₀ j =

@@ -1,12 +1,12 @@
--- `locating::find_set` meets its contract. The invariant: the bytes before j are zero, as those are that were skipped.
+-- `cells::find_set` meets its contract. The invariant: the bytes before j are zero, as those are that were skipped.
 use mathlib.Core.Path.{_≡_}
 use Prim.Native.Nat.{ℕ, _-_, _≤_, _<_}
 use lib.ListN.{length, getD}
 use borrow.Author.Count.{below-more}
 use borrow.Author.Needs.{needs}
 use native.Mathlib.Omega.{arith}
-use Rattle.locating.proofs.find_set.Statement.{statement}
-use Rattle.locating.proofs.find_set.Tie as tie
+use Rattle.cells.proofs.find_set.Statement.{statement}
+use Rattle.cells.proofs.find_set.Tie as tie
 
 abbrev Inv-loop : tie.InvT-loop
 Inv-loop x j₀ j-end j =
