@@ -1,19 +1,16 @@
 -- `evenodd::checks::check` meets its contract: the tests, whether the stripe is blank, and the counts of the loops below.
-use mathlib.Core.Path.{sym, _∙_}
-use mathlib.Core.Bool.{true≢false}
+use mathlib.Core.Path.{sym}
 use mathlib.Core.List.{[]}
 use lib.ListN.{length}
 use native.Mathlib.Omega.{arith}
 use denote.Ref.{now}
-use Rattle.parity.proofs.Bytes.{zeros-blank}
-use Rattle.parity.proofs.Theorems.{blank-zeros}
-use Rattle.cells.proofs.Tells.{zeros-at}
 use Rattle.inputs.specs.Refusals.{pass, Gives}
 use Rattle.inputs.specs.Rules.{stripeRules}
 use Rattle.inputs.proofs.Rules.{passes-not}
 use Rattle.inputs.proofs.Tests.{told-refused, Numbers, stripe-good}
 use Rattle.inputs.proofs.Stripe.{stripe-passed}
 use Rattle.evenodd.proofs.Laid.{laid, parity-inside}
+use Rattle.evenodd.proofs.Zeros.{zeros-tell, no-zeros-tell}
 use Rattle.evenodd.proofs.Checked.{blank-checks, says-checks}
 use Rattle.evenodd.proofs.checks.check.Statement.{statement}
 use Rattle.evenodd.proofs.checks.check.Tie as tie
@@ -55,7 +52,7 @@ returns-2 : tie.Need-returns-2
 returns-2 c =
     let z = c .before .before in
     let a = z .before .before .before .before .before .args in
-    blank-checks (a .m) (a .k) (a .b) (now (a .stripe)) (passed z) (zeros-blank (a .m) (a .k) (a .b) (now (a .stripe)) (zeros-at (c .before .is-blank .ensures .0 (c .if1 .taken))))
+    blank-checks (a .m) (a .k) (a .b) (now (a .stripe)) (passed z) (zeros-tell (a .m) (a .k) (a .b) (now (a .stripe)) _ (c .before .is-blank .ensures) (c .if1 .taken))
 
 count-broken-requires : tie.Need-count-broken-requires
 count-broken-requires c κs = let n = good (c .before .before) in laid (n .shape) (n .column) (n .stripe)
@@ -68,7 +65,7 @@ returns-3 c =
     let z = c .before .before .before .before in
     let a = z .before .before .before .before .before .args in
     let r = c .before .count-broken .ensures in
-    says-checks (a .m) (a .k) (a .b) (now (a .stripe)) (passed z) (λ blank. true≢false (sym (c .before .before .before .is-blank .ensures .1 (record { each = λ x h. blank-zeros (a .m) (a .k) (a .b) (now (a .stripe)) (good z .shape) (good z .stripe) blank x })) ∙ c .before .before .if1 .left)) (c .before .count-broken .result) (r .0) (r .1) (c .told .result) (c .told .ensures)
+    says-checks (a .m) (a .k) (a .b) (now (a .stripe)) (passed z) (no-zeros-tell (a .m) (a .k) (a .b) (now (a .stripe)) _ (c .before .before .before .is-blank .ensures) (good z .shape) (good z .stripe) (c .before .before .if1 .left)) (c .before .count-broken .result) (r .0) (r .1) (c .told .result) (c .told .ensures)
 
 pub check-spec : {M : Type 1} → statement M
 check-spec =

@@ -1,18 +1,15 @@
 -- `evenodd::locates::locate` meets its contract: the tests, whether the stripe is blank, and what each suspect says of valid stripes.
-use mathlib.Core.Path.{sym, subst, _∙_}
-use mathlib.Core.Bool.{true≢false}
+use mathlib.Core.Path.{subst}
 use mathlib.Core.List.{[], _∷_}
 use lib.ListN.{length}
 use native.Mathlib.Omega.{arith}
 use denote.Ref.{now}
 use Rattle.parity.specs.Stripe.{Stripe}
-use Rattle.parity.proofs.Bytes.{zeros-blank}
-use Rattle.parity.proofs.Theorems.{blank-zeros}
-use Rattle.cells.proofs.Tells.{zeros-at}
 use Rattle.locating.specs.Locating.{Located}
 use Rattle.inputs.specs.Rules.{unmendable, stripeRules}
 use Rattle.inputs.proofs.Tests.{told-refused, Numbers, stripe-good}
 use Rattle.evenodd.proofs.Laid.{laid, parity-inside}
+use Rattle.evenodd.proofs.Zeros.{zeros-tell, no-zeros-tell}
 use Rattle.evenodd.proofs.Located.{locate-refused, locate-blank, locate-intact, locate-column, locate-nobody}
 use Rattle.evenodd.proofs.locates.locate.Statement.{statement}
 use Rattle.evenodd.proofs.locates.locate.Tie as tie
@@ -54,7 +51,7 @@ returns-2 : tie.Need-returns-2
 returns-2 c =
     let z = c .before .before in
     let a = z .before .before .before .before .before .args in
-    locate-blank (a .m) (a .k) (a .b) (good z .shape) (now (a .stripe)) (stripe z) (zeros-blank (a .m) (a .k) (a .b) (now (a .stripe)) (zeros-at (c .before .is-blank .ensures .0 (c .if1 .taken))))
+    locate-blank (a .m) (a .k) (a .b) (good z .shape) (now (a .stripe)) (stripe z) (zeros-tell (a .m) (a .k) (a .b) (now (a .stripe)) _ (c .before .is-blank .ensures) (c .if1 .taken))
 
 locate-requires : tie.Need-locate-requires
 locate-requires c κs =
@@ -75,7 +72,7 @@ returns-3 c =
     let z = c .before .before .before .before .before in
     let a = z .before .before .before .before .before .args in
     locate-intact (a .m) (a .k) (a .b) (good z .shape) (now (a .stripe)) (stripe z) (subst (Located (a .m) (a .k) (a .b) (now (a .stripe))) (c .enum-told2 .given .1) (c .before .before .locate .ensures))
-    (λ blank. true≢false (sym (c .before .before .before .before .is-blank .ensures .1 (record { each = λ x h. blank-zeros (a .m) (a .k) (a .b) (now (a .stripe)) (good z .shape) (good z .stripe) blank x })) ∙ c .before .before .before .if1 .left))
+    (no-zeros-tell (a .m) (a .k) (a .b) (now (a .stripe)) _ (c .before .before .before .before .is-blank .ensures) (good z .shape) (good z .stripe) (c .before .before .before .if1 .left))
 
 returns-4 : tie.Need-returns-4
 returns-4 c =
