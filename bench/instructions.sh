@@ -88,7 +88,7 @@ echo "library:  liboarwillow.a, the shipped object"
 echo "compiler: $("$clang" --version | head -n 1), -O3, x86-64 baseline, of plain and registers"
 echo "counted:  by $(qemu-x86_64 --version | head -n 1), -cpu Nehalem"
 echo "x86-64 instructions of one call, and theirs divided by ours (above 1: ours takes fewer); - : no such operation there."
-echo "intact is locate of a valid stripe, locate that of one with a byte wrong in every cell of a column; making it wrong is not counted."
+echo "intact is locate of an intact stripe, locate that of one with a byte wrong in every cell of a column; making it wrong is not counted."
 echo "blank and blank-loc are check and locate of a blank stripe."
 format='%-9s %-13s %11s %11s %11s %11s %11s\n'
 # shellcheck disable=SC2059

@@ -1,4 +1,5 @@
-/* A small stripe from C: encode it, lose two columns, restore them, and print every column from where show says that it lies.
+/* A small stripe from C: encode it, lose two columns, restore them, and print every column from where show says that it lies; then put the stripe
+ * together, and have check say whether it is intact or blank.
  *
  *    make install PREFIX=DIR
  *    export PKG_CONFIG_PATH=DIR/lib/pkgconfig
@@ -53,5 +54,16 @@ int main(void)
             printf(" %02x", part[i]);
         printf("\n");
     }
-    return 0;
+
+    /* restore returns 0 of a blank stripe too, in which every byte is zero. Check tells it from an intact one, once the restored columns stand in their
+     * places: what stood there before, check would read. */
+    memcpy(stripe + first * COLUMN, bench, COLUMN);
+    memcpy(stripe + second * COLUMN, bench + COLUMN, COLUMN);
+    size_t rows, diagonals;
+    uint8_t found;
+    answer = oarwillow_check(M, K, B, stripe, sizeof stripe, &rows, &diagonals, &found);
+    if (answer != 0)
+        return refused("check", answer);
+    printf("%s\n", found == OARWILLOW_FOUND_INTACT ? "intact" : found == OARWILLOW_FOUND_BLANK ? "blank: no good stripe" : "broken");
+    return found != OARWILLOW_FOUND_INTACT;
 }

@@ -1,6 +1,7 @@
 #!/usr/bin/env python3
-"""A small stripe from Python: encode it, lose two columns, restore them, and print every column from where show says that it lies; then a call
-that is refused. The bytes are those of cases C1, C5 and C10; the status is not 0 if others come out.
+"""A small stripe from Python: encode it, lose two columns, restore them, and print every column from where show says that it lies; then put the
+stripe together, and have check say whether it is intact or blank; then a blank stripe, and a call that is refused. The bytes are those of cases C1,
+C5, C10 and C11; the status is not 0 if others come out.
 
     cc -shared -o liboarwillow.so -Wl,--whole-archive liboarwillow.a -Wl,--no-whole-archive
     python3 example/example.py ./liboarwillow.so
@@ -12,15 +13,17 @@ import sys
 Byte, Size = ctypes.c_uint8, ctypes.c_size_t
 Bytes, Number = ctypes.POINTER(Byte), ctypes.POINTER(Size)
 SHAPE, BUFFER, PLACES = [Size] * 3, [Bytes, Size], 129
+FOUND = {1: "intact", 2: "blank", 3: "broken"}  # enum oarwillow_found
 
 
 def load(path):
     """the library; ctypes sees no header, and would take every number for an int"""
     library = ctypes.CDLL(path)
     library.oarwillow_encode.argtypes = SHAPE + BUFFER
+    library.oarwillow_check.argtypes = SHAPE + BUFFER + [Number] * 2 + [Bytes]
     library.oarwillow_restore.argtypes = SHAPE + [Bytes] + BUFFER * 2 + [Number] * 3
     library.oarwillow_show.argtypes = SHAPE + [Bytes] + BUFFER * 2 + [Size] + [Number] * 3
-    for call in library.oarwillow_encode, library.oarwillow_restore, library.oarwillow_show:
+    for call in library.oarwillow_encode, library.oarwillow_check, library.oarwillow_restore, library.oarwillow_show:
         call.restype = Byte
     return library
 
@@ -58,8 +61,15 @@ class Shelf:
         """writes H and D"""
         self.call("encode", self.stripe, len(self.stripe))
 
+    def check(self):
+        """what the stripe is: intact, blank (every byte is zero) or broken"""
+        rows, diagonals, found = Size(), Size(), Byte()
+        self.call("check", self.stripe, len(self.stripe), rows, diagonals, found)
+        return FOUND[found.value]
+
     def restore(self):
-        """writes the absent columns to the bench; gives how many they are, and their numbers"""
+        """writes the absent columns to the bench; gives how many they are, and their numbers. A blank stripe is restored as any other: check tells it,
+        once the stripe is put together"""
         count, first, second = Size(), Size(), Size()
         self.call("restore", *self.buffers(), count, first, second)
         return count.value, first.value, second.value
@@ -70,6 +80,11 @@ class Shelf:
         self.call("show", *self.buffers(), column, from_bench, start, length)
         part = self.bench if from_bench.value else self.stripe
         return from_bench.value == 1, bytes(part[start.value : start.value + length.value])
+
+    def put_together(self):
+        """copies what was restored from the bench to its place in the stripe, for check, which reads every column"""
+        m, k, b = self.shape
+        self.stripe[:] = b"".join(self.show(column)[1] for column in range(k + 2))
 
 
 def expect(said, right):
@@ -93,6 +108,17 @@ def main(path):
         from_bench, part = shelf.show(column)
         expect((from_bench, part.hex()), (column in (0, 2), right))
         print(column, "restored" if from_bench else "present", part.hex(" "))
+    shelf.put_together()
+    expect(shelf.check(), "intact")
+    print(shelf.check())
+
+    # a stripe of zeros, which perhaps no job ever wrote, is restored too; check tells it from a good one
+    zeros = Shelf(shelf.library, 3, 3, 1)
+    zeros.places[0] = 0
+    expect(zeros.restore(), (1, 0, 129))
+    zeros.put_together()
+    expect(zeros.check(), "blank")
+    print(zeros.check())
 
     # a third is lost: nobody gets a byte
     shelf.places[1] = 0

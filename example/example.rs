@@ -1,9 +1,10 @@
-//! A small stripe from Rust: encode it, lose two columns, restore them, and print every column from where show says that it lies; then a call
-//! that is refused. The bytes are those of cases C1, C5 and C10; the status is not 0 if others come out.
+//! A small stripe from Rust: encode it, lose two columns, restore them, and print every column from where show says that it lies; then put the stripe
+//! together, and have check say whether it is intact or blank; then a blank stripe, and a call that is refused. The bytes are those of cases C1, C5, C10
+//! and C11; the status is not 0 if others come out.
 //!
 //!    rustc --edition 2021 -O -L native=DIR -l static=oarwillow example/example.rs      (DIR is where liboarwillow.a is)
 //!
-//! The wrappers `encode`, `restore` and `show` are safe. What the header asks of pointers holds of every slice and reference: they are valid for
+//! The wrappers `encode`, `check`, `restore` and `show` are safe. What the header asks of pointers holds of every slice and reference: they are valid for
 //! their length and not null, and what is lent by `&mut` overlaps nothing else. The library keeps none of them. All else may be as it will: a
 //! wrong shape, length or map is refused by number.
 
@@ -11,6 +12,9 @@ const PLACES: usize = 129;
 
 extern "C" {
     fn oarwillow_encode(m: usize, k: usize, b: usize, stripe: *mut u8, stripe_len: usize) -> u8;
+    fn oarwillow_check(
+        m: usize, k: usize, b: usize, stripe: *const u8, stripe_len: usize, rows: &mut usize, diagonals: &mut usize, found: &mut u8,
+    ) -> u8;
     fn oarwillow_restore(
         m: usize, k: usize, b: usize, places: &[u8; PLACES], stripe: *const u8, stripe_len: usize, bench: *mut u8, bench_len: usize,
         count: &mut usize, first: &mut usize, second: &mut usize,
@@ -45,7 +49,21 @@ fn encode(s: Shape, stripe: &mut [u8]) -> Result<(), Refused> {
     answer("encode", number, ())
 }
 
-/// Writes the absent columns to the bench; gives how many they are, and their numbers.
+/// What a stripe is.
+#[derive(Debug, PartialEq)]
+enum Found { Intact, Blank, Broken }
+
+/// Whether a stripe is intact, blank (every byte is zero) or broken.
+fn check(s: Shape, stripe: &[u8]) -> Result<Found, Refused> {
+    let ([mut rows, mut diagonals], mut found) = ([0; 2], 0);
+    // SAFETY: the pointer and the length are one slice's, which is only read from; the two counts and `found` are lent to this call alone.
+    let number = unsafe { oarwillow_check(s.m, s.k, s.b, stripe.as_ptr(), stripe.len(), &mut rows, &mut diagonals, &mut found) };
+    // enum oarwillow_found
+    answer("check", number, match found { 1 => Found::Intact, 2 => Found::Blank, _ => Found::Broken })
+}
+
+/// Writes the absent columns to the bench; gives how many they are, and their numbers. A blank stripe is restored as any other: `check` tells it, once
+/// the stripe is put together.
 fn restore(s: Shape, places: &[u8; PLACES], stripe: &[u8], bench: &mut [u8]) -> Result<[usize; 3], Refused> {
     let [mut count, mut first, mut second] = [0; 3];
     // SAFETY: each pointer goes with its slice's length; the bench is lent to this call alone, and so are the three numbers.
@@ -96,6 +114,20 @@ fn main() -> Result<(), Refused> {
         let bytes: String = part.iter().map(|byte| format!(" {byte:02x}")).collect();
         println!("{column} {}{bytes}", if from_bench { "restored" } else { "present" });
     }
+
+    // put together: check reads every column, so what was restored is copied to its place
+    for (half, column) in [first, second].into_iter().enumerate() {
+        stripe[column * column_length..][..column_length].copy_from_slice(&bench[half * column_length..][..column_length]);
+    }
+    assert_eq!(check(shape, &stripe)?, Found::Intact);
+    println!("intact");
+
+    // a stripe of zeros, which perhaps no job ever wrote, is restored too, to zeros; check tells it from a good one
+    let zeros = vec![0; stripe.len()];
+    assert_eq!(restore(shape, &places, &zeros, &mut bench)?, [2, 0, 2]);
+    assert_eq!(bench, vec![0; bench.len()]);
+    assert_eq!(check(shape, &zeros)?, Found::Blank);
+    println!("blank");
 
     // a third is lost: nobody gets a byte
     places[1] = 0;

@@ -95,8 +95,8 @@ uint8_t oarwillow_check(size_t m, size_t k, size_t b, const uint8_t *stripe, siz
 
 /* Restores the columns that are absent to the bench: the lowest to the first half, the other to the second; a half that is not needed
  * stays. Gives how many were restored and their numbers, 129 standing for none. What stands in an absent column's place never alters
- * the answer. A blank stripe is valid, and is restored as any other: oarwillow_check of the stripe that was put together tells it. On a
- * refusal: 0, 129, 129. Refusals: 1, 12, 13, 2, 3, 9, 4, 5. */
+ * the answer. A blank stripe is valid, and is restored as any other: to tell it, copy the restored columns to their places in the
+ * stripe, and ask oarwillow_check. On a refusal: 0, 129, 129. Refusals: 1, 12, 13, 2, 3, 9, 4, 5. */
 uint8_t oarwillow_restore(size_t m, size_t k, size_t b, const uint8_t places[129], const uint8_t *stripe, size_t stripe_len,
                           uint8_t *bench, size_t bench_len, size_t *count, size_t *first, size_t *second);
 

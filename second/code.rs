@@ -172,7 +172,7 @@ impl Bits {
 
 fn add_bytes(to: &mut [u8], from: &[u8]) { to.iter_mut().zip(from).for_each(|(x, y)| *x ^= y); }
 
-fn is_zero(bytes: &[u8]) -> bool { bytes.iter().all(|&x| x == 0) }
+pub fn is_zero(bytes: &[u8]) -> bool { bytes.iter().all(|&x| x == 0) }
 
 /// A stripe is blank when every byte of it is zero.
 pub fn is_blank(stripe: &[u8]) -> bool { is_zero(stripe) }

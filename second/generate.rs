@@ -742,7 +742,7 @@ impl Maker {
 
     fn bad_length(&mut self, bytes: &mut Vec<u8>, column: usize) {
         // What is all zero stays so.
-        let (was, filler) = (bytes.len(), if is_blank(bytes) { 0 } else { self.random.byte() });
+        let (was, filler) = (bytes.len(), if is_zero(bytes) { 0 } else { self.random.byte() });
         let now = match self.random.below(8) {
             0 => 0,
             1 => was + column,

@@ -140,7 +140,7 @@ fn is_valid(shape: Shape, stripe: &[u8]) -> bool {
 
 /// Whether all columns but these are zero.
 fn is_zero_without(shape: Shape, stripe: &[u8], absent: &[usize]) -> bool {
-    (0..shape.columns()).filter(|column| !absent.contains(column)).all(|column| is_blank(&stripe[shape.column(column)]))
+    (0..shape.columns()).filter(|column| !absent.contains(column)).all(|column| is_zero(&stripe[shape.column(column)]))
 }
 
 /// Whether the only wrong column is an imaginary one; not asked where there are many.
@@ -250,7 +250,7 @@ impl Tally {
         if sum_zero && found != FOUND_INTACT { met.push("sum zero"); }
         if found == FOUND_INTACT {
             if sum_zero { met.push("intact sum zero"); }
-            if is_blank(&stripe[k * length..]) { met.push("intact parity zero"); }
+            if is_zero(&stripe[k * length..]) { met.push("intact parity zero"); }
             let data: Vec<usize> = places.into_iter().filter(|place| place / length < k).collect();
             let one_lane = b > 1 && data.iter().all(|place| place % b == data[0] % b);
             if data == [k * length - 1] { met.push("intact last byte"); }

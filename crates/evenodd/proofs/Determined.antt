@@ -158,22 +158,18 @@ restores-unread m k b map s other bench x r p e a = record {
 
 -- ---- locate
 
--- locate's rules give one verdict
-answered : (m k b : ℕ) (s : List ℕ) (v w : Verdict) → Gives (locateRules m k b s) v → Gives (locateRules m k b s) w → v ≡ w
-answered m k b s v w = gives-one (locateRules m k b s) v w
-
 pub locates-one : LocatesOne
 unfolding LocatesOne
 locates-one m k b s r q p h = go r q p h
   where
     go : (r q : Located) → Locates m k b s r → Locates m k b s q → r ≡ q
-    go located.Intact q p h = sym (h .found (answered m k b s _ _ (h .told) (p .told)) .intact .1 (p .found refl .intact .0 refl))
-    go located.Blank q p h = sym (h .found (answered m k b s _ _ (h .told) (p .told)) .blank .1 (p .found refl .blank .0 refl))
-    go (located.Column u) q p h = sym (h .found (answered m k b s _ _ (h .told) (p .told)) .named u .1 (p .found refl .named u .0 refl))
-    go (located.Refused f) located.Intact p h = absurd (passes-not f (answered m k b s _ _ (h .told) (p .told)))
-    go (located.Refused f) located.Blank p h = absurd (passes-not f (answered m k b s _ _ (h .told) (p .told)))
-    go (located.Refused f) (located.Column v) p h = absurd (passes-not f (answered m k b s _ _ (h .told) (p .told)))
-    go (located.Refused f) (located.Refused g) p h = ap located.Refused (refuse-one f g (answered m k b s _ _ (p .told) (h .told)))
+    go located.Intact q p h = sym (h .found (gives-one (locateRules m k b s) _ _ (h .told) (p .told)) .intact .1 (p .found refl .intact .0 refl))
+    go located.Blank q p h = sym (h .found (gives-one (locateRules m k b s) _ _ (h .told) (p .told)) .blank .1 (p .found refl .blank .0 refl))
+    go (located.Column u) q p h = sym (h .found (gives-one (locateRules m k b s) _ _ (h .told) (p .told)) .named u .1 (p .found refl .named u .0 refl))
+    go (located.Refused f) located.Intact p h = absurd (passes-not f (gives-one (locateRules m k b s) _ _ (h .told) (p .told)))
+    go (located.Refused f) located.Blank p h = absurd (passes-not f (gives-one (locateRules m k b s) _ _ (h .told) (p .told)))
+    go (located.Refused f) (located.Column v) p h = absurd (passes-not f (gives-one (locateRules m k b s) _ _ (h .told) (p .told)))
+    go (located.Refused f) (located.Refused g) p h = ap located.Refused (refuse-one f g (gives-one (locateRules m k b s) _ _ (p .told) (h .told)))
 
 -- ---- rewrite
 
@@ -218,7 +214,7 @@ module _ (m k b : ℕ) (s : List ℕ) where
   none-named r located.Blank e none p h = (refl, p .kept none ∙ sym (h .kept refl))
   none-named {x} {y} r (located.Column v) e none p h =
       absurd (not-one m k b (locate-passed m k b s (h .told) .0) s y v (h .named v refl) (rw (p .kept none) at (p .valid e)) (h .valid refl) (h .differed refl))
-  none-named r (located.Refused g) e none p h = absurd (passes-not g (sym e ∙ answered m k b s _ _ (p .told) (h .told)))
+  none-named r (located.Refused g) e none p h = absurd (passes-not g (sym e ∙ gives-one (locateRules m k b s) _ _ (p .told) (h .told)))
 
   mends-alike : {x y : List ℕ} (r q : Located) → Mends m k b s x r → Mends m k b s y q → (columnOf r ≡ columnOf q) × (x ≡ y)
   unfolding OneWrong
@@ -228,15 +224,15 @@ module _ (m k b : ℕ) (s : List ℕ) where
   mends-alike (located.Column u) located.Blank p h = let (a, c) = none-named located.Blank (located.Column u) refl refl h p in (a, sym c)
   mends-alike {x} {y} (located.Column u) (located.Column v) p h =
       one-wrong m k b (locate-passed m k b s (p .told) .0) s x y u v (p .named u refl) (h .named v refl) (p .valid refl) (h .valid refl) (p .differed refl) (h .differed refl)
-  mends-alike (located.Column u) (located.Refused g) p h = absurd (passes-not g (answered m k b s _ _ (p .told) (h .told)))
-  mends-alike (located.Refused f) located.Intact p h = absurd (passes-not f (answered m k b s _ _ (h .told) (p .told)))
-  mends-alike (located.Refused f) located.Blank p h = absurd (passes-not f (answered m k b s _ _ (h .told) (p .told)))
-  mends-alike (located.Refused f) (located.Column v) p h = absurd (passes-not f (answered m k b s _ _ (h .told) (p .told)))
+  mends-alike (located.Column u) (located.Refused g) p h = absurd (passes-not g (gives-one (locateRules m k b s) _ _ (p .told) (h .told)))
+  mends-alike (located.Refused f) located.Intact p h = absurd (passes-not f (gives-one (locateRules m k b s) _ _ (h .told) (p .told)))
+  mends-alike (located.Refused f) located.Blank p h = absurd (passes-not f (gives-one (locateRules m k b s) _ _ (h .told) (p .told)))
+  mends-alike (located.Refused f) (located.Column v) p h = absurd (passes-not f (gives-one (locateRules m k b s) _ _ (h .told) (p .told)))
   mends-alike (located.Refused f) (located.Refused g) p h = (refl, p .kept refl ∙ sym (h .kept refl))
 
 pub mends-one : MendsOne
 unfolding MendsOne
-mends-one m k b s x y r q p h = let (column, left) = mends-alike m k b s r q p h in (answered m k b s _ _ (p .told) (h .told), column, left)
+mends-one m k b s x y r q p h = let (column, left) = mends-alike m k b s r q p h in (gives-one (locateRules m k b s) _ _ (p .told) (h .told), column, left)
 
 -- ---- show
 

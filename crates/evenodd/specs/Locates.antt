@@ -2,8 +2,8 @@
 --   locateRules   1, 12, 13, 2, 6
 --   verdictOf, foundOf, columnOf   the verdict of an answer; the number of what was found; the column that is named, 129 for none
 --   OneDiffers    some valid stripe differs from s in exactly column u
---   Found         the stripe is called blank exactly when every byte is zero, and intact exactly when it is valid and not blank; column u is named
---                 exactly when `OneDiffers` holds of it
+--   Found         the stripe is called blank exactly when every byte is zero, and intact exactly when it is valid and not blank, which is what check calls
+--                 intact (`SameWords`); column u is named exactly when `OneDiffers` holds of it
 --   Locates       refused by `locateRules`; passed: `Found`
 use mathlib.Core.Path.{_≡_}
 use mathlib.Core.Logic.{_↔_}

@@ -42,8 +42,8 @@ impl Located {
     }
 }
 
-// Takes a stripe with every column present, and says which one is wrong: none, where the stripe is valid, which is blank or intact; the one in which alone a
-// valid stripe differs from it. Nothing is written.
+// Takes a stripe with every column present, and says which one is wrong: none, where the stripe is valid, and then whether it is blank or intact; the one in
+// which alone a valid stripe differs from it. Nothing is written.
 pub fn locate(m: usize, k: usize, b: usize, stripe: &[u8]) -> Located
     ensures { λ r. ⌜ Locates m k b (now (stripe .entry)) r ⌝ }
 {

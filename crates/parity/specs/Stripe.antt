@@ -5,7 +5,7 @@
 --   Valid m k b s          it is a stripe whose equations hold in every lane
 --   brokenRows             the rows whose H equation breaks, a cell counting once however many of its bytes break
 --   brokenDiagonals        the same of D
---   Blank m k b s          every byte is zero
+--   Blank m k b s          every byte is zero. Like the counts it asks nothing of the length: what a list is too short for counts as zero
 --   SomeByte m k b s       some byte is not
 --   Intact m k b s         both counts are zero, and some byte is not
 use mathlib.Core.Path.{_≡_}

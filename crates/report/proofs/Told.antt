@@ -6,6 +6,7 @@
 --   tellable       where every column is there, the columns can be shown, and their text has room
 --   held-lent, text-lent    the same of the parts of the stripe and of the bench as they are lent
 --   reports-start  text that is written at the start of the buffer is the report
+--   reports-complete, reports-blank    so is the text of a stripe that has every column, and is not blank or is
 use mathlib.Core.Path.{_≡_, refl, sym, ap, _∙_}
 use mathlib.Core.Logic.{_⊎_, inl, inr}
 use mathlib.Core.Bool.{Bool, true, false, not, cond}

@@ -14,8 +14,8 @@ ghost use Rattle.parity.specs.Presence.{absences};
 ghost use Rattle.report.specs.Shown.{ShownZeros, Held};
 ghost use Rattle.report.specs.Judgements.{JudgesParts, JudgesFormed, JudgesImage, Formed};
 
-// What came of an image: every column is there, in the stripe or in the bench; so it is, and every byte of them is zero; three or more are absent; those that
-// are present contradict each other; or the image is refused without a shape.
+// What came of an image: every column is there, in the stripe or in the bench, and some byte is not zero; every column is there, and every byte is zero; three
+// or more are absent; those that are present contradict each other; or the image is refused without a shape.
 pub enum Outcome {
     Complete(Shape),
     Blank(Shape),
