@@ -6,7 +6,6 @@
 --   tellable       where every column is there, the columns can be shown, and their text has room
 --   held-lent, text-lent    the same of the parts of the stripe and of the bench as they are lent
 --   reports-start  text that is written at the start of the buffer is the report
---   reports-complete, reports-blank    so is the text of a stripe that has every column, and is not blank or is
 use mathlib.Core.Path.{_≡_, refl, sym, ap, _∙_}
 use mathlib.Core.Logic.{_⊎_, inl, inr}
 use mathlib.Core.Bool.{Bool, true, false, not, cond}
@@ -141,15 +140,6 @@ module _ {image s after bench benched : List ℕ} where
   pub reports-start : {x y t : List ℕ} {r : ℕ} (j : Judgement) → JudgesImage image s after bench benched j → Wrote x y 0 r t → r ≤ length y
       → t ≡ textOf (j .outcome) (j .map) after benched → Reports image s after bench benched x y r
   reports-start j h w l e = record { judgement = j; judged = h; within = l; text = w .text ∙ e; rest = w .rest }
-
-  -- the report where every column is there, of a stripe that is not blank, and of one that is
-  pub reports-complete : {x y : List ℕ} {r : ℕ} (j : Judgement) (shape : Shape) → JudgesImage image s after bench benched j → j .outcome ≡ outcome.Complete shape
-      → Wrote x y 0 r (completeText shape (j .map) after benched false) → r ≤ length x → Reports image s after bench benched x y r
-  reports-complete j shape h e w l = reports-start j h w (omega (arith, w .size)) (rw e refl)
-
-  pub reports-blank : {x y : List ℕ} {r : ℕ} (j : Judgement) (shape : Shape) → JudgesImage image s after bench benched j → j .outcome ≡ outcome.Blank shape
-      → Wrote x y 0 r (completeText shape (j .map) after benched true) → r ≤ length x → Reports image s after bench benched x y r
-  reports-blank j shape h e w l = reports-start j h w (omega (arith, w .size)) (rw e refl)
 
 -- parts that begin the buffers, as they are lent
 module _ (shape : Shape) (map : Map) (s bench : List ℕ) (n c : ℕ) (e : n ≡ stripeOf shape) (d : c ≡ benchOf shape) where

@@ -1,8 +1,10 @@
 -- `report::telling::report` meets its contract: each outcome has its text, which has room since the image is short.
 use mathlib.Core.Path.{refl, ap, _∙_}
 use mathlib.Core.Logic.{inl, inr}
+use mathlib.Core.Bool.{true, false}
 use Rattle.report.specs.Lines.{answerLine}
-use Rattle.report.proofs.Told.{told, told-fits, tellable, reports-start, reports-complete, reports-blank}
+use Rattle.report.specs.Reports.{completeText}
+use Rattle.report.proofs.Told.{told, told-fits, tellable, reports-start}
 use borrow.Author.Needs.{needs}
 use native.Mathlib.Omega.{arith}
 use Rattle.report.proofs.telling.report.Statement.{statement}
@@ -62,7 +64,7 @@ returns c =
     let w = c .before .before .put-complete .ensures in
     let known = c .before .before .before .before .before .before .before .outcome .given in
     let judged = c .before .before .before .before .before .before .before .before .before .before .before .before .before .before .judge-image in
-    reports-complete (judged .result) (known .0 .0) (judged .ensures) (known .1) (w .0) (w .1)
+    reports-start {t = completeText (known .0 .0) (judged .result .map) _ _ false} (judged .result) (judged .ensures) (w .0) (omega (arith, w .0 .size, w .1)) (rw (known .1) refl)
 
 same-length-4 : tie.Need-same-length-4
 same-length-4 c = search needs
@@ -78,7 +80,7 @@ returns-2 c =
     let w = c .before .before .put-complete2 .ensures in
     let known = c .before .before .before .before .before .before .before .outcome2 .given in
     let judged = c .before .before .before .before .before .before .before .before .before .before .before .before .before .before .judge-image in
-    reports-blank (judged .result) (known .0 .0) (judged .ensures) (known .1) (w .0) (w .1)
+    reports-start {t = completeText (known .0 .0) (judged .result .map) _ _ true} (judged .result) (judged .ensures) (w .0) (omega (arith, w .0 .size, w .1)) (rw (known .1) refl)
 
 same-length-7 : tie.Need-same-length-7
 same-length-7 c = search needs
