@@ -17,7 +17,7 @@ ghost use mathlib.Core.Path.{_≡_};
 ghost use Prim.Native.Nat.{ℕ, _+_, _≤_};
 ghost use lib.Dec.{ltb};
 ghost use Rattle.parity.specs.Presence.{present};
-ghost use Rattle.inputs.specs.Truth.{TrueMap};
+ghost use Rattle.maps.specs.Truth.{TrueMap};
 
 // The map of the five columns of C1, all present.
 pub fn five() -> Map

@@ -12,7 +12,7 @@ use Rattle.parity.proofs.Theorems.{lanes-counted, blank-holds, not-both-blank, 
 use Rattle.counting.specs.declared.Counts.{Counts}
 use Rattle.evenodd.specs.declared.checks.Checked.{Checked}
 use Rattle.evenodd.specs.declared.checks.Checked.the-variants as checked
-use Rattle.inputs.specs.Refusals.{pass, Gives}
+use Rattle.refusals.specs.Refusals.{pass, Gives}
 use Rattle.inputs.specs.Rules.{stripeRules}
 use Rattle.evenodd.specs.Checks.{Checks, CountsSay}
 

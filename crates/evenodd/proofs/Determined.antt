@@ -14,7 +14,7 @@ use Rattle.parity.proofs.Columns.{same-column}
 use Rattle.parity.proofs.Stripes.{stripe-determined}
 use Rattle.parity.proofs.Theorems.{frame, served, at-most-one, absent-unread, one-wrong}
 use Rattle.inputs.specs.Rules.{tooManyAbsent, contradicted, unmendable, stripeRules, lentRules, gapRules, restoreRules, showRules}
-use Rattle.inputs.proofs.Rules.{passes-not, refuse-one, gives-one, passed-first, gives-passed, gives-instead}
+use Rattle.refusals.proofs.Rules.{passes-not, refuse-one, gives-one, passed-first, gives-passed, gives-instead}
 use Rattle.inputs.proofs.Stripe.{stripe-given}
 use Rattle.evenodd.specs.declared.checks.Checked.{Checked}
 use Rattle.evenodd.specs.declared.checks.Checked.the-variants as checked
@@ -26,9 +26,9 @@ use Rattle.evenodd.specs.Determined.{EncodesOne, ChecksOne, RestoresOne,
 use lib.ListN.{length}
 use Rattle.parity.specs.Theorems.{AtMostOne, AbsentUnread, OneWrong}
 use Rattle.parity.proofs.Bytes.{stripe-ext}
-use Rattle.inputs.proofs.Absent.{nth-one}
-use Rattle.inputs.specs.declared.maps.Map.{Map}
-use Rattle.inputs.specs.Refusals.{pass, Gives, Verdict}
+use Rattle.maps.proofs.Absent.{nth-one}
+use Rattle.maps.specs.declared.Map.{Map}
+use Rattle.refusals.specs.Refusals.{pass, Gives, Verdict}
 use Rattle.inputs.proofs.Tests.{lent-given}
 use Rattle.evenodd.specs.declared.locates.Located.{Located}
 use Rattle.evenodd.specs.declared.locates.Located.the-variants as located

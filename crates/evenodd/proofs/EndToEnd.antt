@@ -16,13 +16,13 @@ use Rattle.parity.proofs.Bytes.{stripe-ext}
 use Rattle.parity.proofs.Columns.{same-column, column-same}
 use Rattle.parity.proofs.Count.{few-pass}
 use Rattle.parity.proofs.Theorems.{at-most-one, never-one, blank-valid, intact-or-blank}
-use Rattle.inputs.specs.declared.shapes.Refusal.{Refusal}
-use Rattle.inputs.specs.declared.shapes.Refusal.the-variants.{Ambiguous, Contradicted, Unmendable}
-use Rattle.inputs.specs.Refusals.{numberOf, pass, refuse, Gives}
-use Rattle.inputs.specs.Absent.{absentBelow}
+use Rattle.refusals.specs.declared.Refusal.{Refusal}
+use Rattle.refusals.specs.declared.Refusal.the-variants.{Ambiguous, Contradicted, Unmendable}
+use Rattle.refusals.specs.Refusals.{numberOf, pass, refuse, Gives}
+use Rattle.maps.specs.Absent.{absentBelow}
 use Rattle.inputs.specs.Rules.{tooManyAbsent, contradicted, unmendable, stripeRules, lentRules, gapRules, restoreRules}
-use Rattle.inputs.proofs.Absent.{absences-below, below-under, nth-one, absent-nth}
-use Rattle.inputs.proofs.Rules.{passes-not, refuse-one, gives-one, gives-first, gives-next, gives-after, gives-passed, gives-rest}
+use Rattle.maps.proofs.Absent.{absences-below, below-under, nth-one, absent-nth}
+use Rattle.refusals.proofs.Rules.{passes-not, refuse-one, gives-one, gives-first, gives-next, gives-after, gives-passed, gives-rest}
 use Rattle.inputs.proofs.Shape.{places-most}
 use Rattle.inputs.proofs.Stripe.{stripe-given, stripe-passed}
 use Rattle.inputs.proofs.Tests.{lent-passed, gaps-passed}

@@ -27,11 +27,11 @@ use Rattle.parity.proofs.Count.{one-pass, few-pass}
 use Rattle.parity.proofs.Theorems.{near, one-wrong, few-differ, blank-holds}
 use Rattle.parity.proofs.Fits.{rewritten, rewritten-other, fits-valid, valid-fits}
 use Rattle.locating.specs.Locating.{Sound}
-use Rattle.inputs.specs.declared.shapes.Refusal.{Refusal}
-use Rattle.inputs.specs.declared.shapes.Refusal.the-variants.{Unmendable}
-use Rattle.inputs.specs.Refusals.{Verdict, pass, refuse, Gives}
+use Rattle.refusals.specs.declared.Refusal.{Refusal}
+use Rattle.refusals.specs.declared.Refusal.the-variants.{Unmendable}
+use Rattle.refusals.specs.Refusals.{Verdict, pass, refuse, Gives}
 use Rattle.inputs.specs.Rules.{unmendable, stripeRules}
-use Rattle.inputs.proofs.Rules.{passes-not, gives-first, gives-next, gives-after}
+use Rattle.refusals.proofs.Rules.{passes-not, gives-first, gives-next, gives-after}
 use Rattle.inputs.proofs.Stripe.{stripe-passed}
 use Rattle.evenodd.specs.declared.locates.Located.the-variants as located
 use Rattle.evenodd.specs.Locates.{locateRules, OneDiffers, Locates}

@@ -21,21 +21,21 @@ use Rattle.parity.specs.Theorems.{ExactlyOne}
 use Rattle.parity.proofs.Columns.{same-column, column-same}
 use Rattle.parity.proofs.Fits.{rewritten, rewritten-other, fits-valid, valid-fits}
 use Rattle.parity.proofs.Theorems.{exactly-one}
-use Rattle.inputs.specs.declared.maps.Gaps.{Gaps}
-use Rattle.inputs.specs.Absent.{absentBelow, NthAbsent, Counts}
-use Rattle.inputs.proofs.Absent.{absences-below, below-under, others-present}
+use Rattle.maps.specs.declared.Gaps.{Gaps}
+use Rattle.maps.specs.Absent.{absentBelow, NthAbsent, Counts}
+use Rattle.maps.proofs.Absent.{absences-below, below-under, others-present}
 use Rattle.evenodd.specs.Fills.{Gapped, GapsFilled, FillsGaps}
-use Rattle.inputs.specs.declared.maps.Map.{Map}
+use Rattle.maps.specs.declared.Map.{Map}
 use Rattle.evenodd.specs.declared.restores.Restored.the-variants.{Refused}
 use Rattle.inputs.specs.declared.lent.Given.{Given}
 use Rattle.inputs.specs.declared.lent.Given.the-variants as given
-use Rattle.inputs.specs.declared.shapes.Refusal.{Refusal}
-use Rattle.inputs.specs.declared.shapes.Refusal.the-variants.{Contradicted}
-use Rattle.inputs.specs.Refusals.{Verdict, Gives}
+use Rattle.refusals.specs.declared.Refusal.{Refusal}
+use Rattle.refusals.specs.declared.Refusal.the-variants.{Contradicted}
+use Rattle.refusals.specs.Refusals.{Verdict, Gives}
 use Rattle.inputs.specs.Rules.{contradicted, gapRules, restoreRules}
 use Rattle.inputs.specs.Tests.{JudgesGaps, refusalOf}
 use Rattle.evenodd.specs.Restores.{Benched, RestoredFrom, Restores, restoredBy}
-use Rattle.inputs.proofs.Rules.{passes-not, gives-first, gives-next, gives-after}
+use Rattle.refusals.proofs.Rules.{passes-not, gives-first, gives-next, gives-after}
 use Rattle.inputs.proofs.Tests.{FewAbsent, gaps-refused}
 
 module _ (m k b : ℕ) (h : Shape m k b) (map : List Bool) (s : List ℕ) (st : Stripe m k b s) (n first second : ℕ)

@@ -22,11 +22,11 @@ use Rattle.parity.proofs.Count.{few-pass}
 use Rattle.parity.proofs.Theorems.{near}
 use Rattle.parity.proofs.Fits.{rewritten, rewritten-other, fits-valid, valid-fits}
 use Rattle.restoring.specs.Restoring.{SameBut}
-use Rattle.inputs.specs.declared.shapes.Refusal.{Refusal}
-use Rattle.inputs.specs.declared.shapes.Refusal.the-variants.{NoSuchColumn, Contradicted}
-use Rattle.inputs.specs.Refusals.{Verdict, refuse, Gives}
+use Rattle.refusals.specs.declared.Refusal.{Refusal}
+use Rattle.refusals.specs.declared.Refusal.the-variants.{NoSuchColumn, Contradicted}
+use Rattle.refusals.specs.Refusals.{Verdict, refuse, Gives}
 use Rattle.inputs.specs.Rules.{stripeRules}
-use Rattle.inputs.proofs.Rules.{gives-first, gives-next, gives-after}
+use Rattle.refusals.proofs.Rules.{gives-first, gives-next, gives-after}
 use Rattle.inputs.proofs.Stripe.{stripe-passed}
 use Rattle.evenodd.specs.declared.rewrites.Rewritten.the-variants.{Done, Refused}
 use Rattle.evenodd.specs.Rewrites.{columnRules, rewriteRules, Rewrites}

@@ -18,25 +18,25 @@ use native.Mathlib.Omega.{arith}
 use lib.ListN.{length}
 use Rattle.parity.specs.Shape.{Shape, columnLength, stripeLength, benchLength}
 use Rattle.parity.specs.Presence.{present, absences}
-use Rattle.inputs.specs.declared.maps.Gaps.{Gaps}
-use Rattle.inputs.proofs.Absent.{absences-below, below-under}
-use Rattle.inputs.specs.declared.maps.Map.{Map}
+use Rattle.maps.specs.declared.Gaps.{Gaps}
+use Rattle.maps.proofs.Absent.{absences-below, below-under}
+use Rattle.maps.specs.declared.Map.{Map}
 use Rattle.evenodd.specs.declared.shows.Place.the-variants.{InStripe, InBench, Refused}
 use Rattle.inputs.specs.declared.shapes.Judged.{Judged}
 use Rattle.inputs.specs.declared.shapes.Judged.the-variants as judged
-use Rattle.inputs.specs.declared.shapes.Refusal.{Refusal}
-use Rattle.inputs.specs.declared.shapes.Refusal.the-variants.{NoSuchColumn, Ambiguous}
-use Rattle.inputs.specs.Refusals.{pass, refuse, Rule, Gives}
+use Rattle.refusals.specs.declared.Refusal.{Refusal}
+use Rattle.refusals.specs.declared.Refusal.the-variants.{NoSuchColumn, Ambiguous}
+use Rattle.refusals.specs.Refusals.{pass, refuse, Rule, Gives}
 use Rattle.inputs.specs.Shapes.{refusalOf}
-use Rattle.inputs.specs.Absent.{Stray, absentBelow, Counts}
-use Rattle.inputs.specs.Truth.{TrueMap, absentByCount}
+use Rattle.maps.specs.Absent.{Stray, absentBelow, Counts}
+use Rattle.maps.specs.Truth.{TrueMap, absentByCount}
 use Rattle.inputs.specs.Rules.{noSuchColumn, tooManyAbsent, lentRules, showRules}
 use Rattle.inputs.specs.Tests.{JudgesLent}
 use Rattle.evenodd.specs.Shows.{half, Places}
-use Rattle.inputs.proofs.Rules.{passes-not, gives-first, gives-next, gives-after, gives-passed, passed-first}
+use Rattle.refusals.proofs.Rules.{passes-not, gives-first, gives-next, gives-after, gives-passed, passed-first}
 use Rattle.inputs.proofs.Shape.{places-most, parts-most}
 use Rattle.inputs.proofs.Tests.{Lent, lent-given, lent-passed, told-refused}
-use Rattle.inputs.proofs.Truth.{absent-counted}
+use Rattle.maps.proofs.Truth.{absent-counted}
 
 pub record NotRefused (m k b : ℕ) (map : Map) (s bench : List ℕ) (column : ℕ) : Type 0 where
   pub shape : Shape m k b

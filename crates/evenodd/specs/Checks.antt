@@ -13,7 +13,7 @@ use Rattle.parity.specs.Stripe.{brokenRows, brokenDiagonals, Blank, Intact}
 use Rattle.counting.specs.declared.Counts.{Counts}
 use Rattle.evenodd.specs.declared.checks.Checked.{Checked}
 use Rattle.evenodd.specs.declared.checks.Checked.the-variants as checked
-use Rattle.inputs.specs.Refusals.{Verdict, pass, refuse, Gives}
+use Rattle.refusals.specs.Refusals.{Verdict, pass, refuse, Gives}
 use Rattle.inputs.specs.Rules.{stripeRules}
 
 abbrev pub verdictOf : Checked → Verdict

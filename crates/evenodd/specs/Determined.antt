@@ -15,7 +15,7 @@ use Rattle.evenodd.specs.Encodes.{Encodes}
 use Rattle.evenodd.specs.Checks.{Checks}
 use lib.ListN.{length}
 use Rattle.parity.specs.Presence.{Agrees, AgreesBut}
-use Rattle.inputs.specs.declared.maps.Map.{Map}
+use Rattle.maps.specs.declared.Map.{Map}
 use Rattle.evenodd.specs.declared.locates.Located.{Located}
 use Rattle.evenodd.specs.declared.restores.Restored.{Restored}
 use Rattle.evenodd.specs.declared.rewrites.Rewritten.{Rewritten}

@@ -10,7 +10,7 @@ use Rattle.parity.specs.Stripe.{Valid}
 use Rattle.parity.specs.Presence.{differs}
 use Rattle.evenodd.specs.declared.encodes.Encoded.{Encoded}
 use Rattle.evenodd.specs.declared.encodes.Encoded.the-variants.{Done, Refused}
-use Rattle.inputs.specs.Refusals.{Verdict, pass, refuse, Gives}
+use Rattle.refusals.specs.Refusals.{Verdict, pass, refuse, Gives}
 use Rattle.inputs.specs.Rules.{stripeRules}
 
 abbrev pub verdictOf : Encoded → Verdict

@@ -17,12 +17,12 @@ use lib.ListN.{length}
 use Rattle.parity.specs.Shape.{Shape, benchLength}
 use Rattle.parity.specs.Stripe.{byte, Stripe, Valid, Blank}
 use Rattle.parity.specs.Presence.{present, absences, Agrees, AgreesBut}
-use Rattle.inputs.specs.declared.maps.Map.{Map}
-use Rattle.inputs.specs.declared.shapes.Refusal.{Refusal}
-use Rattle.inputs.specs.declared.shapes.Refusal.the-variants.{Ambiguous, Contradicted, Unmendable}
-use Rattle.inputs.specs.Refusals.{pass}
-use Rattle.inputs.specs.Absent.{Stray}
-use Rattle.inputs.specs.Truth.{TrueMap}
+use Rattle.maps.specs.declared.Map.{Map}
+use Rattle.refusals.specs.declared.Refusal.{Refusal}
+use Rattle.refusals.specs.declared.Refusal.the-variants.{Ambiguous, Contradicted, Unmendable}
+use Rattle.refusals.specs.Refusals.{pass}
+use Rattle.maps.specs.Absent.{Stray}
+use Rattle.maps.specs.Truth.{TrueMap}
 use Rattle.evenodd.specs.declared.checks.Checked.{Checked}
 use Rattle.evenodd.specs.declared.checks.Checked.the-variants as checked
 use Rattle.evenodd.specs.declared.encodes.Encoded.the-variants as encoded

@@ -11,7 +11,7 @@ use Rattle.parity.specs.Shape.{Shape, columnLength, stripeLength, benchLength}
 use Rattle.parity.specs.Candidate.{FitsBut}
 use Rattle.lines.specs.declared.Grid.{Grid}
 use Rattle.restoring.specs.Restoring.{OneRestored, TwoRestored}
-use Rattle.inputs.specs.declared.maps.Gaps.{Gaps}
+use Rattle.maps.specs.declared.Gaps.{Gaps}
 
 pub record Gapped (g : Grid) (gaps : Gaps) (s bench : List ℕ) : Type 0 where
   pub shape : Shape (g .m) (g .k) (g .b)

@@ -15,7 +15,7 @@ use Rattle.parity.specs.Stripe.{Valid, Blank}
 use Rattle.parity.specs.Presence.{DifferIn}
 use Rattle.evenodd.specs.declared.locates.Located.{Located}
 use Rattle.evenodd.specs.declared.locates.Located.the-variants as located
-use Rattle.inputs.specs.Refusals.{Verdict, pass, refuse, Rule, Gives}
+use Rattle.refusals.specs.Refusals.{Verdict, pass, refuse, Rule, Gives}
 use Rattle.inputs.specs.Rules.{unmendable, stripeRules}
 
 abbrev pub locateRules : ℕ → ℕ → ℕ → List ℕ → List Rule

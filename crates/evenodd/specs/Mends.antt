@@ -11,7 +11,7 @@ use Rattle.parity.specs.Presence.{DifferIn}
 use Rattle.evenodd.specs.declared.locates.Located.{Located}
 use Rattle.evenodd.specs.declared.locates.Located.the-variants.{Column}
 use Rattle.evenodd.specs.declared.rewrites.Rewritten.{Rewritten}
-use Rattle.inputs.specs.Refusals.{pass, Gives}
+use Rattle.refusals.specs.Refusals.{pass, Gives}
 use Rattle.evenodd.specs.Locates.{locateRules, verdictOf, columnOf, Locates}
 use Rattle.evenodd.specs.Rewrites.{Rewrites}
 

@@ -12,15 +12,15 @@ use lib.Dec.{ltb}
 use lib.ListN.{length}
 use Rattle.parity.specs.Stripe.{byte, Valid}
 use Rattle.parity.specs.Presence.{absences, Agrees}
-use Rattle.inputs.specs.declared.maps.Gaps.{Gaps}
-use Rattle.inputs.specs.declared.maps.Map.{Map}
+use Rattle.maps.specs.declared.Gaps.{Gaps}
+use Rattle.maps.specs.declared.Map.{Map}
 use Rattle.evenodd.specs.declared.restores.Restored.{Restored}
 use Rattle.evenodd.specs.declared.restores.Restored.the-variants.{Columns, Refused}
-use Rattle.inputs.specs.declared.shapes.Refusal.{Refusal}
-use Rattle.inputs.specs.declared.shapes.Refusal.the-variants.{Contradicted}
-use Rattle.inputs.specs.Refusals.{Verdict, pass, refuse, Gives}
+use Rattle.refusals.specs.declared.Refusal.{Refusal}
+use Rattle.refusals.specs.declared.Refusal.the-variants.{Contradicted}
+use Rattle.refusals.specs.Refusals.{Verdict, pass, refuse, Gives}
 use Rattle.inputs.specs.Rules.{restoreRules}
-use Rattle.inputs.specs.Absent.{NthAbsent}
+use Rattle.maps.specs.Absent.{NthAbsent}
 
 abbrev pub verdictOf : Restored → Verdict
 verdictOf (Columns n first second) = pass

@@ -12,7 +12,7 @@ use Rattle.parity.specs.Stripe.{Valid}
 use Rattle.parity.specs.Presence.{AgreesBut}
 use Rattle.evenodd.specs.declared.rewrites.Rewritten.{Rewritten}
 use Rattle.evenodd.specs.declared.rewrites.Rewritten.the-variants.{Done, Refused}
-use Rattle.inputs.specs.Refusals.{Verdict, pass, refuse, Rule, Gives}
+use Rattle.refusals.specs.Refusals.{Verdict, pass, refuse, Rule, Gives}
 use Rattle.inputs.specs.Rules.{noSuchColumn, contradictedBut, stripeRules}
 
 abbrev pub columnRules : ℕ → ℕ → ℕ → ℕ → List ℕ → List Rule

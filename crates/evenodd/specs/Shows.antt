@@ -13,12 +13,12 @@ use denote.Ref.{RefT, now}
 use lib.ListN.{length, take, drop}
 use Rattle.parity.specs.Shape.{columnLength}
 use Rattle.parity.specs.Presence.{present}
-use Rattle.inputs.specs.declared.maps.Map.{Map}
+use Rattle.maps.specs.declared.Map.{Map}
 use Rattle.evenodd.specs.declared.shows.Place.{Place}
 use Rattle.evenodd.specs.declared.shows.Place.the-variants.{InStripe, InBench, Refused}
-use Rattle.inputs.specs.Refusals.{Verdict, pass, refuse, Gives}
+use Rattle.refusals.specs.Refusals.{Verdict, pass, refuse, Gives}
 use Rattle.inputs.specs.Rules.{showRules}
-use Rattle.inputs.specs.Absent.{absentBelow}
+use Rattle.maps.specs.Absent.{absentBelow}
 
 unfoldable pub half : List Bool → ℕ → ℕ
 half map t = absentBelow t map

@@ -2,9 +2,9 @@
 use crate::blank::is_blank;
 use counting::Counts;
 use inputs::Judged;
-use inputs::Refusal;
 use inputs::judge_stripe;
 use lines::Grid;
+use refusals::Refusal;
 ghost use mathlib.Core.Path.{_≡_};
 ghost use Rattle.evenodd.specs.Checks.{foundOf, Checks, CountsSay};
 

@@ -1,5 +1,5 @@
 // Stripes kept in the EVENODD code: encode, check, restore, locate, rewrite and show. Nothing here asks anything of its caller: bad input is
-// refused by number, and a refused call changes no byte that was lent. Shapes, maps and refusals are handed on from `inputs`.
+// refused by number, and a refused call changes no byte that was lent. Refusals, maps and shapes are handed on from the crates below.
 mod blank;
 mod checks;
 mod encodes;
@@ -12,14 +12,14 @@ pub use checks::Checked;
 pub use checks::check;
 pub use encodes::Encoded;
 pub use encodes::encode;
-pub use inputs::Gaps;
 pub use inputs::Judged;
-pub use inputs::Map;
-pub use inputs::Marked;
-pub use inputs::Refusal;
 pub use inputs::judge;
 pub use locates::Located;
 pub use locates::locate;
+pub use maps::Gaps;
+pub use maps::Map;
+pub use maps::Marked;
+pub use refusals::Refusal;
 pub use restores::Restored;
 pub use restores::restore;
 pub use rewrites::Rewritten;

@@ -1,10 +1,10 @@
 // Locate.
 use crate::blank::is_blank;
 use inputs::Judged;
-use inputs::Refusal;
 use inputs::judge_stripe;
 use lines::Grid;
 use locating::Suspect;
+use refusals::Refusal;
 ghost use mathlib.Core.Path.{_≡_};
 ghost use Rattle.evenodd.specs.Locates.{Locates, foundOf, columnOf};
 

@@ -1,10 +1,10 @@
 // Restore.
-use inputs::Gaps;
 use inputs::Given;
-use inputs::Map;
-use inputs::Refusal;
 use inputs::judge_gaps;
 use lines::Grid;
+use maps::Gaps;
+use maps::Map;
+use refusals::Refusal;
 ghost use mathlib.Core.Path.{_≡_};
 ghost use Rattle.evenodd.specs.Fills.{Gapped, FillsGaps};
 ghost use Rattle.evenodd.specs.Restores.{Restores, restoredBy};

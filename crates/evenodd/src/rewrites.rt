@@ -1,8 +1,8 @@
 // Rewrite.
 use inputs::Judged;
-use inputs::Refusal;
 use inputs::judge_stripe;
 use lines::Grid;
+use refusals::Refusal;
 ghost use Rattle.evenodd.specs.Rewrites.{Rewrites};
 
 // What rewrite answers.

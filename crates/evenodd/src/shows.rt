@@ -1,8 +1,8 @@
 // Showing a column: where it lies, and the part itself.
 use inputs::Judged;
-use inputs::Map;
-use inputs::Refusal;
 use inputs::judge_lent;
+use maps::Map;
+use refusals::Refusal;
 ghost use Rattle.evenodd.specs.Shows.{Places, Shows};
 
 // Where a column is shown: from a byte on, so many bytes, in the stripe or in the bench; or why not.

@@ -13,14 +13,14 @@ use Rattle.parity.specs.Presence.{present, absences}
 use Rattle.parity.proofs.Bytes.{stripe-ext}
 use Rattle.parity.proofs.Columns.{same-column, places-same}
 use Rattle.cells.proofs.Parts.{by-order}
-use Rattle.inputs.specs.declared.maps.Map.{Map}
-use Rattle.inputs.specs.declared.shapes.Refusal.{Refusal}
-use Rattle.inputs.specs.Refusals.{pass, refuse, Gives}
+use Rattle.maps.specs.declared.Map.{Map}
+use Rattle.refusals.specs.declared.Refusal.{Refusal}
+use Rattle.refusals.specs.Refusals.{pass, refuse, Gives}
 use Rattle.inputs.specs.Rules.{stripeLengthDiffers}
-use Rattle.inputs.specs.Determined.{NewOne, TrueMapOne}
-use Rattle.inputs.specs.Truth.{TrueMap}
-use Rattle.inputs.proofs.Rules.{passes-not, passed-first, equal-of, gives-one, gives-passed}
-use Rattle.inputs.proofs.Determined.{new-one, true-map-one}
+use Rattle.maps.specs.Determined.{NewOne, TrueMapOne}
+use Rattle.maps.specs.Truth.{TrueMap}
+use Rattle.refusals.proofs.Rules.{passes-not, passed-first, equal-of, gives-one, gives-passed}
+use Rattle.maps.proofs.Determined.{new-one, true-map-one}
 use Rattle.image.specs.declared.answers.Read.{Read}
 use Rattle.image.specs.declared.answers.Read.the-variants as read
 use Rattle.image.specs.Reads.{mIn, kIn, bIn, contentsRules, readRules, verdictOf, kOf, Says, Filled, Fills}

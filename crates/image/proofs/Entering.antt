@@ -15,8 +15,8 @@ use borrow.Author.Count.{below-more}
 use borrow.Author.Tests.{eq-eqb, ne-eqb}
 use Rattle.parity.specs.Sum.{count}
 use Rattle.parity.specs.Presence.{present}
-use Rattle.inputs.proofs.Truth.{put-present}
-use Rattle.inputs.proofs.Presence.{new-absent}
+use Rattle.maps.proofs.Truth.{put-present}
+use Rattle.maps.proofs.Presence.{new-absent}
 use Rattle.image.specs.declared.table.Table.{Table}
 use Rattle.image.specs.declared.table.State.the-variants.{Present, Absent, Wrong}
 use Rattle.image.specs.Reads.{number2}

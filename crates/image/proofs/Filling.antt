@@ -9,14 +9,14 @@ use Prim.Native.Nat.{ℕ, _+_}
 use lib.ListN.{length}
 use Rattle.parity.specs.Shape.{Shape, columnLength, stripeLength}
 use Rattle.parity.proofs.Columns.{places-same}
-use Rattle.inputs.specs.declared.maps.Map.{Map}
-use Rattle.inputs.specs.declared.shapes.Refusal.{Refusal}
-use Rattle.inputs.specs.declared.shapes.Refusal.the-variants.{StripeLength}
-use Rattle.inputs.specs.Refusals.{pass, refuse, Gives}
+use Rattle.maps.specs.declared.Map.{Map}
+use Rattle.refusals.specs.declared.Refusal.{Refusal}
+use Rattle.refusals.specs.declared.Refusal.the-variants.{StripeLength}
+use Rattle.refusals.specs.Refusals.{pass, refuse, Gives}
 use Rattle.inputs.specs.Rules.{stripeLengthDiffers}
-use Rattle.inputs.specs.Maps.{New}
-use Rattle.inputs.specs.Truth.{TrueMap}
-use Rattle.inputs.proofs.Rules.{gives-first, gives-next, passed-first, gives-refused, gives-after}
+use Rattle.maps.specs.Maps.{New}
+use Rattle.maps.specs.Truth.{TrueMap}
+use Rattle.refusals.proofs.Rules.{gives-first, gives-next, passed-first, gives-refused, gives-after}
 use Rattle.inputs.proofs.Shape.{passed-shape}
 use Rattle.image.specs.declared.answers.Read.the-variants as read
 use Rattle.image.specs.declared.answers.Contents.{Contents}

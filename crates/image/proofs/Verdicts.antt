@@ -15,14 +15,14 @@ use lib.ListN.{length}
 use Rattle.parity.specs.Shape.{Shape, columnLength}
 use Rattle.inputs.specs.declared.shapes.Judged.{Judged}
 use Rattle.inputs.specs.declared.shapes.Judged.the-variants as judged
-use Rattle.inputs.specs.declared.shapes.Refusal.{Refusal}
-use Rattle.inputs.specs.declared.shapes.Refusal.the-variants.{Malformed}
-use Rattle.inputs.specs.Refusals.{Verdict, pass, refuse, Gives}
+use Rattle.refusals.specs.declared.Refusal.{Refusal}
+use Rattle.refusals.specs.declared.Refusal.the-variants.{Malformed}
+use Rattle.refusals.specs.Refusals.{Verdict, pass, refuse, Gives}
 use Rattle.inputs.specs.Rules.{shapeRules}
 use Rattle.inputs.specs.Shapes.{Judges, refusalOf}
-use Rattle.inputs.specs.declared.maps.Map.{Map}
-use Rattle.inputs.specs.Maps.{New, OfPlaces}
-use Rattle.inputs.proofs.Rules.{gives-first, gives-next}
+use Rattle.maps.specs.declared.Map.{Map}
+use Rattle.maps.specs.Maps.{New, OfPlaces}
+use Rattle.refusals.proofs.Rules.{gives-first, gives-next}
 use Rattle.inputs.proofs.Shape.{judged-refused, after-shape}
 use Rattle.image.specs.declared.answers.Read.the-variants as read
 use Rattle.image.specs.declared.answers.Contents.{Contents}

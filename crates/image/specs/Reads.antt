@@ -17,12 +17,12 @@ use mathlib.Core.List.{List, [], _∷_, _++_}
 use Prim.Native.Nat.{ℕ, _+_, _*_, _<_}
 use lib.ListN.{length, getD}
 use Rattle.parity.specs.Presence.{present, differs, Agrees}
-use Rattle.inputs.specs.declared.maps.Map.{Map}
-use Rattle.inputs.specs.declared.shapes.Refusal.the-variants.{Malformed}
-use Rattle.inputs.specs.Refusals.{Verdict, pass, refuse, Rule, Gives}
+use Rattle.maps.specs.declared.Map.{Map}
+use Rattle.refusals.specs.declared.Refusal.the-variants.{Malformed}
+use Rattle.refusals.specs.Refusals.{Verdict, pass, refuse, Rule, Gives}
 use Rattle.inputs.specs.Rules.{stripeLengthDiffers, shapeRules}
-use Rattle.inputs.specs.Maps.{New}
-use Rattle.inputs.specs.Truth.{TrueMap}
+use Rattle.maps.specs.Maps.{New}
+use Rattle.maps.specs.Truth.{TrueMap}
 use Rattle.image.specs.declared.answers.Read.{Read}
 use Rattle.image.specs.declared.answers.Read.the-variants.{Shape, Refused}
 use Rattle.image.specs.declared.answers.Contents.{Contents}

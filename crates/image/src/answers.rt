@@ -2,7 +2,7 @@
 use evenodd::Map;
 use evenodd::Refusal;
 ghost use mathlib.Core.Path.{_≡_};
-ghost use Rattle.inputs.specs.Maps.{New};
+ghost use Rattle.maps.specs.Maps.{New};
 
 // The shape that an image has, or why it is refused: the shape is then 0 0 0.
 pub enum Read {

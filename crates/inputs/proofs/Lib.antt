@@ -1,11 +1,5 @@
 -- Laws that belong to no one function.
-pub mod Rules
 pub mod Shape
 pub mod Stripe
 pub mod Tests
-pub mod Absent
-pub mod Filling
-pub mod Present
-pub mod Truth
-pub mod Presence
 pub mod Determined

@@ -16,12 +16,12 @@ use Rattle.parity.proofs.Shapes.{odd-prime-of}
 pub use Rattle.parity.proofs.Shapes.{column-most, places-most, parts-most}
 use Rattle.inputs.specs.declared.shapes.Judged.{Judged}
 use Rattle.inputs.specs.declared.shapes.Judged.the-variants.{Good, Refused}
-use Rattle.inputs.specs.declared.shapes.Refusal.{Refusal}
-use Rattle.inputs.specs.declared.shapes.Refusal.the-variants as refusal
-use Rattle.inputs.specs.Refusals.{Verdict, pass, refuse, Rule, Gives}
+use Rattle.refusals.specs.declared.Refusal.{Refusal}
+use Rattle.refusals.specs.declared.Refusal.the-variants as refusal
+use Rattle.refusals.specs.Refusals.{Verdict, pass, refuse, Rule, Gives}
 use Rattle.inputs.specs.Rules.{shapeRules}
 use Rattle.inputs.specs.Shapes.{Judges, refusalOf}
-use Rattle.inputs.proofs.Rules.{gives-first, gives-next, passed-first, gives-refused, gives-after, gives-passed}
+use Rattle.refusals.proofs.Rules.{gives-first, gives-next, passed-first, gives-refused, gives-after, gives-passed}
 
 -- a number from 1 to the most is neither 0 nor above it, and the other way round
 within : (n most : ℕ) → 1 ≤ n → n ≤ most → (n ≡ 0) ⊎ (most < n) → ⊥

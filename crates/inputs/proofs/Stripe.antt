@@ -5,9 +5,9 @@ use mathlib.Core.Path.{_≡_, refl}
 use mathlib.Core.List.{[], _∷_}
 use Prim.Native.Nat.{ℕ}
 use Rattle.parity.specs.Shape.{Shape, stripeLength}
-use Rattle.inputs.specs.Refusals.{pass, Gives}
+use Rattle.refusals.specs.Refusals.{pass, Gives}
 use Rattle.inputs.specs.Rules.{stripeLengthDiffers, stripeRules}
-use Rattle.inputs.proofs.Rules.{gives-next, passed-first, equal-of}
+use Rattle.refusals.proofs.Rules.{gives-next, passed-first, equal-of}
 use Rattle.inputs.proofs.Shape.{after-shape, passed-shape}
 
 module _ (m k b n : ℕ) where

@@ -15,21 +15,21 @@ use Rattle.parity.specs.Shape.{Shape, columnLength, stripeLength, benchLength}
 use Rattle.parity.specs.Presence.{absences}
 use Rattle.inputs.specs.declared.lent.Given.{Given}
 use Rattle.inputs.specs.declared.lent.Given.the-variants as given
-use Rattle.inputs.specs.declared.maps.Gaps.{Gaps}
-use Rattle.inputs.specs.declared.maps.Map.{Map}
+use Rattle.maps.specs.declared.Gaps.{Gaps}
+use Rattle.maps.specs.declared.Map.{Map}
 use Rattle.inputs.specs.declared.shapes.Judged.{Judged}
 use Rattle.inputs.specs.declared.shapes.Judged.the-variants.{Good, Refused}
-use Rattle.inputs.specs.declared.shapes.Refusal.{Refusal}
-use Rattle.inputs.specs.Refusals.{pass, refuse, Rule, Gives}
-use Rattle.inputs.specs.Absent.{Stray, Counts}
-use Rattle.inputs.specs.Truth.{TrueMap}
+use Rattle.refusals.specs.declared.Refusal.{Refusal}
+use Rattle.refusals.specs.Refusals.{pass, refuse, Rule, Gives}
+use Rattle.maps.specs.Absent.{Stray, Counts}
+use Rattle.maps.specs.Truth.{TrueMap}
 use Rattle.inputs.specs.Rules.{benchLengthDiffers, tooManyAbsent, stripeRules, mapRules, lentRules, gapRules}
 use Rattle.inputs.specs.Shapes.{verdictOf, goodColumn, refusalOf}
 use Rattle.inputs.specs.Tests as tests
 use Rattle.inputs.specs.Tests.{JudgesStripe, JudgesLent, JudgesGaps}
-use Rattle.inputs.proofs.Rules.{gives-next, gives-refused, gives-after, gives-passed, passed-first, equal-of}
+use Rattle.refusals.proofs.Rules.{gives-next, gives-refused, gives-after, gives-passed, passed-first, equal-of}
 use Rattle.inputs.proofs.Stripe.{stripe-passed, stripe-given}
-use Rattle.inputs.proofs.Truth.{not-lying}
+use Rattle.maps.proofs.Truth.{not-lying}
 
 module _ (rules more : List Rule) where
   pub passed-on : (j : Judged) {f : Refusal} → Gives rules (verdictOf j) → j ≡ Refused f → Gives (rules ++ more) (verdictOf j)

@@ -1,10 +1,5 @@
--- What is promised of the inputs: the refusals and their order, shapes, the presence map and the tests that the calls share.
-pub mod Refusals
-pub mod Absent
-pub mod Truth
-pub mod Tops
+-- What is promised of the inputs: the rules of refusal and their orders, the shape check, and the tests that the calls share.
 pub mod Rules
 pub mod Shapes
-pub mod Maps
 pub mod Tests
 pub mod Determined

@@ -1,4 +1,4 @@
--- Every rule of refusal, once and by name, and the orders in which calls ask them. The refusal of the first rule that applies is given.
+-- The rules of refusal, each once and by name, and the orders in which calls ask them. The refusal of the first rule that applies is given.
 --   wrongM m                      1: m is no odd prime from 3 to 127
 --   stripeLengthDiffers m k b n   2: a stripe is not n bytes
 --   benchLengthDiffers m b n      3: a bench is not n bytes
@@ -7,12 +7,11 @@
 --   contradictedBut m k b u s     5: no valid stripe agrees with every column of s but u
 --   unmendable m k b s            6: no valid stripe differs from s in at most one column
 --   noSuchColumn k column         7: the shape has no column of that number
---   noSuchPlace place             7: the map has no place of that number
 --   strayColumn k map             9: a place at or above k + 2 is present
 --   wrongK m k                    12: k is 0 or above m
 --   wrongB b                      13: b is 0 or above 4,096
---   lyingMap map                  17: the map's two numbers are not what its places say
--- 8 stands with the shelf image's format, and 10 with the program. The orders:
+-- 17, and the 7 of marking a place, stand with the map (`lyingMap`, `noSuchPlace` and `placeRules`, in crates/maps/specs/Rules.antt), 8 with the shelf image's
+-- format, and 10 with the program. The orders:
 --   shapeRules     1, 12, 13: asked first by every call that is given a shape, and by the readers of an image of its header. They let exactly
 --                  the shapes pass (`ShapesPass`)
 --   stripeRules    1, 12, 13, 2: encode and check
@@ -21,7 +20,6 @@
 --   gapRules       1, 12, 13, 2, 3, 17, 9, 4
 --   restoreRules   1, 12, 13, 2, 3, 17, 9, 4, 5
 --   showRules      1, 12, 13, 2, 3, 17, 9, 7, 4
---   placeRules     17, 7: marking a place
 -- Those of locate and rewrite, which begin with `stripeRules`, stand with their promises, and those of an image's readers with the format.
 use mathlib.Core.Path.{_≡_}
 use mathlib.Core.Logic.{_≢_, _⊎_}
@@ -31,11 +29,11 @@ use lib.ListN.{length}
 use Rattle.parity.specs.Shape.{OddPrime, stripeLength, benchLength}
 use Rattle.parity.specs.Stripe.{Valid}
 use Rattle.parity.specs.Presence.{absences, differing, Agrees, AgreesBut}
-use Rattle.inputs.specs.declared.maps.Map.{Map}
-use Rattle.inputs.specs.declared.shapes.Refusal.the-variants as refusal
-use Rattle.inputs.specs.Refusals.{Rule}
-use Rattle.inputs.specs.Absent.{Stray}
-use Rattle.inputs.specs.Truth.{TrueMap}
+use Rattle.maps.specs.declared.Map.{Map}
+use Rattle.refusals.specs.declared.Refusal.the-variants as refusal
+use Rattle.refusals.specs.Refusals.{Rule}
+use Rattle.maps.specs.Absent.{Stray}
+use Rattle.maps.specs.Rules.{lyingMap}
 
 abbrev pub wrongM : ℕ → Rule
 wrongM m = record { condition = OddPrime m → ⊥; refusal = refusal.WrongM }
@@ -61,9 +59,6 @@ unmendable m k b s = record { condition = (v : List ℕ) → Valid m k b v → d
 abbrev pub noSuchColumn : ℕ → ℕ → Rule
 noSuchColumn k column = record { condition = k + 2 ≤ column; refusal = refusal.NoSuchColumn }
 
-abbrev pub noSuchPlace : ℕ → Rule
-noSuchPlace place = record { condition = 129 ≤ place; refusal = refusal.NoSuchColumn }
-
 abbrev pub strayColumn : ℕ → Map → Rule
 strayColumn k map = record { condition = Stray k (map .places); refusal = refusal.StrayColumn }
 
@@ -72,9 +67,6 @@ wrongK m k = record { condition = (k ≡ 0) ⊎ (m < k); refusal = refusal.Wrong
 
 abbrev pub wrongB : ℕ → Rule
 wrongB b = record { condition = (b ≡ 0) ⊎ (4096 < b); refusal = refusal.WrongB }
-
-abbrev pub lyingMap : Map → Rule
-lyingMap map = record { condition = TrueMap map → ⊥; refusal = refusal.LyingMap }
 
 -- ---- the orders
 
@@ -98,6 +90,3 @@ restoreRules m k b map s w = gapRules m k b map (length s) w ++ (contradicted m 
 
 abbrev pub showRules : ℕ → ℕ → ℕ → Map → ℕ → ℕ → ℕ → List Rule
 showRules m k b map n w column = lentRules m k b map n w ++ (noSuchColumn k column ∷ tooManyAbsent k map ∷ [])
-
-abbrev pub placeRules : Map → ℕ → List Rule
-placeRules map place = lyingMap map ∷ noSuchPlace place ∷ []

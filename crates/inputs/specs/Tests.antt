@@ -9,13 +9,13 @@ use Prim.Native.Nat.{ℕ, _+_}
 use Rattle.parity.specs.Shape.{columnLength}
 use Rattle.inputs.specs.declared.lent.Given.{Given}
 use Rattle.inputs.specs.declared.lent.Given.the-variants as given
-use Rattle.inputs.specs.declared.maps.Map.{Map}
+use Rattle.maps.specs.declared.Map.{Map}
 use Rattle.inputs.specs.declared.shapes.Judged.{Judged}
-use Rattle.inputs.specs.declared.shapes.Refusal.{Refusal}
-use Rattle.inputs.specs.declared.shapes.Refusal.the-variants.{WrongM}
-use Rattle.inputs.specs.Refusals.{Verdict, pass, refuse, Gives}
+use Rattle.refusals.specs.declared.Refusal.{Refusal}
+use Rattle.refusals.specs.declared.Refusal.the-variants.{WrongM}
+use Rattle.refusals.specs.Refusals.{Verdict, pass, refuse, Gives}
 use Rattle.inputs.specs.Rules.{stripeRules, lentRules, gapRules}
-use Rattle.inputs.specs.Absent.{Counts}
+use Rattle.maps.specs.Absent.{Counts}
 use Rattle.inputs.specs.Shapes as shapes
 use Rattle.inputs.specs.Shapes.{goodColumn}
 

@@ -1,9 +1,10 @@
 // The tests that the calls share: on the numbers, on what is lent, and on the map.
-use crate::maps::Gaps;
-use crate::maps::Map;
 use crate::shapes::Judged;
-use crate::shapes::Refusal;
 use crate::shapes::judge;
+use maps::Gaps;
+use maps::Map;
+use maps::reaches;
+use refusals::Refusal;
 ghost use mathlib.Core.Path.{_≡_};
 ghost use Rattle.inputs.specs.Tests.{JudgesStripe, JudgesLent, JudgesGaps, refusalOf};
 
@@ -53,7 +54,7 @@ pub fn judge_lent(m: usize, k: usize, b: usize, map: Map, length: usize, held: u
     if !map.is_true() {
         return Judged::Refused(Refusal::LyingMap);
     }
-    if map.reaches(k + 2) {
+    if reaches(map, k + 2) {
         return Judged::Refused(Refusal::StrayColumn);
     }
     judged

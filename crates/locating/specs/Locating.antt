@@ -2,7 +2,7 @@
 --   Sound m k b s           the equations hold in every lane of the stripe s
 --   Suspects m k b s r      what r says of the stripe s: Nothing, that no lane breaks; Column u, that only column u can be the wrong one;
 --                           Nobody, that no column alone can
---   Located m k b s r       Nothing, that no lane breaks; Column u, that one does, and the columns other than u fit a valid stripe; Nobody, that one
+--   Blamed m k b s r        Nothing, that no lane breaks; Column u, that one does, and the columns other than u fit a valid stripe; Nobody, that one
 --                           does, and the columns other than one fit none, whichever that is
 -- In parts:
 --   Searched g s            a stripe in which that column can be looked for
@@ -39,10 +39,10 @@ Suspects m k b s Nothing = Sound m k b s
 Suspects m k b s (Column u) = (Sound m k b s → ⊥) × (u < k + 2) × ((x : ℕ) → x < k + 2 → FitsBut m k b x s → x ≡ u)
 Suspects m k b s Nobody = (Sound m k b s → ⊥) × ((x : ℕ) → x < k + 2 → FitsBut m k b x s → ⊥)
 
-abbrev pub Located : ℕ → ℕ → ℕ → List ℕ → Suspect → Type 0
-Located m k b s Nothing = Sound m k b s
-Located m k b s (Column u) = (Sound m k b s → ⊥) × (u < k + 2) × FitsBut m k b u s
-Located m k b s Nobody = (Sound m k b s → ⊥) × ((x : ℕ) → x < k + 2 → FitsBut m k b x s → ⊥)
+abbrev pub Blamed : ℕ → ℕ → ℕ → List ℕ → Suspect → Type 0
+Blamed m k b s Nothing = Sound m k b s
+Blamed m k b s (Column u) = (Sound m k b s → ⊥) × (u < k + 2) × FitsBut m k b u s
+Blamed m k b s Nobody = (Sound m k b s → ⊥) × ((x : ℕ) → x < k + 2 → FitsBut m k b x s → ⊥)
 
 pub record Searched (g : Grid) (s : List ℕ) : Type 0 where
   pub laid : Laid g s

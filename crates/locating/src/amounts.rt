@@ -25,7 +25,7 @@ fn take_lane(x: &mut [u8], s: &[u8], g: Grid, t: usize, l: usize)
 }
 
 // Adds x, turned by t, to d: byte i gets the byte to which t steps of a diagonal lead from row i. That is two runs.
-fn add_turned(d: &mut [u8], x: &[u8], t: usize)
+fn add_turned_lane(d: &mut [u8], x: &[u8], t: usize)
     requires { ⌜ (length (now d) ≡ length (now x)) × (t ≤ length (now x)) ⌝ }
     ensures { λ _. ⌜ Added (now (d .entry)) (now (d .exit)) (λ i. getD (now (x .entry)) (back (length (now (x .entry))) i t) 0) ⌝ }
 {
@@ -41,7 +41,7 @@ fn add_lane(x: &mut [u8], h: &mut [u8], d: &mut [u8], s: &[u8], g: Grid, t: usiz
 {
     take_lane(x, s, g, t, l);
     cells::xor_into(h, x);
-    add_turned(d, x, t);
+    add_turned_lane(d, x, t);
 }
 
 // h and d, which are zero, become the rows and the diagonals of lane l, summed over the data columns. x is room for one.

@@ -2,13 +2,13 @@
 use crate::Suspect;
 use crate::judge_row;
 use lines::Grid;
-ghost use Rattle.locating.specs.Locating.{Suspects, Searched, Located, RowBreaks};
+ghost use Rattle.locating.specs.Locating.{Suspects, Searched, Blamed, RowBreaks};
 ghost use Rattle.locating.specs.declared.Suspect.the-variants.{Column};
 
 // Column u alone can be the wrong one: it is, where the others fit a valid stripe.
 fn confirm(s: &[u8], g: Grid, u: usize) -> Suspect
     requires { ⌜ Searched g (now s) × Suspects (g .m) (g .k) (g .b) (now s) (Column u) ⌝ }
-    ensures { λ r. ⌜ Located (g .m) (g .k) (g .b) (now (s .entry)) r ⌝ }
+    ensures { λ r. ⌜ Blamed (g .m) (g .k) (g .b) (now (s .entry)) r ⌝ }
 {
     if counting::fits_but(s, g, u) {
         return Suspect::Column(u);
@@ -19,7 +19,7 @@ fn confirm(s: &[u8], g: Grid, u: usize) -> Suspect
 // Which column of a stripe whose row i breaks is the wrong one.
 fn locate_by_row(s: &[u8], g: Grid, i: usize) -> Suspect
     requires { ⌜ Searched g (now s) × RowBreaks g (now s) i ⌝ }
-    ensures { λ r. ⌜ Located (g .m) (g .k) (g .b) (now (s .entry)) r ⌝ }
+    ensures { λ r. ⌜ Blamed (g .m) (g .k) (g .b) (now (s .entry)) r ⌝ }
 {
     match judge_row(s, g, i) {
         Suspect::Nothing => Suspect::Nothing,
@@ -32,7 +32,7 @@ fn locate_by_row(s: &[u8], g: Grid, i: usize) -> Suspect
 // other than D fit.
 pub fn locate(s: &[u8], g: Grid) -> Suspect
     requires { ⌜ Searched g (now s) ⌝ }
-    ensures { λ r. ⌜ Located (g .m) (g .k) (g .b) (now (s .entry)) r ⌝ }
+    ensures { λ r. ⌜ Blamed (g .m) (g .k) (g .b) (now (s .entry)) r ⌝ }
 {
     let i = counting::find_broken_row(s, g);
     if i < g.m - 1 {

@@ -11,9 +11,9 @@ use Rattle.inputs.specs.Rules.{stripeRules, restoreRules, showRules}
 use Rattle.evenodd.specs.Locates.{locateRules}
 use Rattle.evenodd.specs.Rewrites.{rewriteRules}
 use Rattle.image.specs.Reads.{contentsRules, readRules}
-use Rattle.inputs.proofs.Rules.{never-number, equal-of}
-use Rattle.inputs.specs.Determined.{OfBytesOne, AsBytesOne, FindsGapsOne}
-use Rattle.inputs.proofs.Determined.{of-bytes-one, as-bytes-one, finds-gaps-one}
+use Rattle.refusals.proofs.Rules.{never-number, equal-of}
+use Rattle.maps.specs.Determined.{OfBytesOne, AsBytesOne, FindsGapsOne}
+use Rattle.maps.proofs.Determined.{of-bytes-one, as-bytes-one, finds-gaps-one}
 use Rattle.evenodd.specs.Determined.{PlacesOne, RestoresOne, LocatesOne, RewritesOne, EncodesOne, ChecksOne}
 use Rattle.evenodd.proofs.Determined.{places-one, restores-one, locates-one, rewrites-one, encodes-one, checks-one}
 use Rattle.image.specs.declared.answers.Contents.{Contents}

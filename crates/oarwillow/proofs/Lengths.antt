@@ -7,10 +7,10 @@ use native.Mathlib.Omega.{arith}
 use Rattle.parity.specs.Shape.{OddPrime, Shape}
 use Rattle.inputs.specs.declared.shapes.Judged.{Judged}
 use Rattle.inputs.specs.declared.shapes.Judged.the-variants.{Good, Refused}
-use Rattle.inputs.specs.declared.shapes.Refusal.{Refusal}
+use Rattle.refusals.specs.declared.Refusal.{Refusal}
 use Rattle.inputs.specs.Rules.{shapeRules}
 use Rattle.inputs.specs.Shapes.{Judges}
-use Rattle.inputs.proofs.Rules.{passes-not, gives-one}
+use Rattle.refusals.proofs.Rules.{passes-not, gives-one}
 use Rattle.inputs.proofs.Shape.{shape-passes}
 
 pub no-shape : (m k b : ℕ) (j : Judged) {f : Refusal} → Judges m k b j → j ≡ Refused f → Shape m k b → ⊥

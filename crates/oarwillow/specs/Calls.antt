@@ -11,14 +11,14 @@ use Prim.Native.Nat.{ℕ, _+_, _≤_}
 use Rattle.parity.specs.Shape.{OddPrime, Shape, stripeLength, benchLength}
 use Rattle.evenodd.specs.declared.checks.Checked.{Checked}
 use Rattle.evenodd.specs.declared.encodes.Encoded.{Encoded}
-use Rattle.inputs.specs.declared.maps.Gaps.{Gaps}
-use Rattle.inputs.specs.declared.maps.Map.{Map}
+use Rattle.maps.specs.declared.Gaps.{Gaps}
+use Rattle.maps.specs.declared.Map.{Map}
 use Rattle.evenodd.specs.declared.locates.Located.{Located}
 use Rattle.evenodd.specs.declared.restores.Restored.{Restored}
 use Rattle.evenodd.specs.declared.rewrites.Rewritten.{Rewritten}
 use Rattle.evenodd.specs.declared.shows.Place.{Place}
-use Rattle.inputs.specs.Refusals.{answerNumber}
-use Rattle.inputs.specs.Maps.{OfBytes, AsBytes, FindsGaps}
+use Rattle.refusals.specs.Refusals.{answerNumber}
+use Rattle.maps.specs.Maps.{OfBytes, AsBytes, FindsGaps}
 use Rattle.evenodd.specs.Encodes.{Encodes}
 use Rattle.evenodd.specs.Encodes as encodes
 use Rattle.evenodd.specs.Checks.{Checks, rowsOf, diagonalsOf}

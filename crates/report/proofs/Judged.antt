@@ -21,21 +21,21 @@ use lib.Seq.{take-at, drop-at, length-take-le}
 use borrow.Rule.Slice.PartMut.{putMid}
 use Rattle.parity.specs.Presence.{absences}
 use Rattle.cells.proofs.Parts.{by-order}
-use Rattle.inputs.specs.declared.maps.Map.{Map}
+use Rattle.maps.specs.declared.Map.{Map}
 use Rattle.evenodd.specs.declared.restores.Restored.the-variants as restored
-use Rattle.inputs.specs.declared.shapes.Refusal.{Refusal}
-use Rattle.inputs.specs.declared.shapes.Refusal.the-variants as refusal
-use Rattle.inputs.specs.Refusals.{Verdict, pass, refuse, Gives}
-use Rattle.inputs.specs.Absent.{Stray}
-use Rattle.inputs.specs.Truth.{TrueMap, absentByCount}
+use Rattle.refusals.specs.declared.Refusal.{Refusal}
+use Rattle.refusals.specs.declared.Refusal.the-variants as refusal
+use Rattle.refusals.specs.Refusals.{Verdict, pass, refuse, Gives}
+use Rattle.maps.specs.Absent.{Stray}
+use Rattle.maps.specs.Truth.{TrueMap, absentByCount}
 use Rattle.inputs.specs.Rules.{stripeLengthDiffers, contradicted, gapRules}
-use Rattle.inputs.specs.Maps.{New}
+use Rattle.maps.specs.Maps.{New}
 use Rattle.evenodd.specs.Restores.{Restores}
 use Rattle.evenodd.specs.EndToEnd.{Together}
 use Rattle.evenodd.proofs.EndToEnd.{together}
-use Rattle.inputs.proofs.Rules.{passes-not, refuse-one, gives-first, gives-next, gives-one, gives-after, gives-passed, gives-rest}
+use Rattle.refusals.proofs.Rules.{passes-not, refuse-one, gives-first, gives-next, gives-one, gives-after, gives-passed, gives-rest}
 use Rattle.inputs.proofs.Tests.{gaps-passed}
-use Rattle.inputs.proofs.Truth.{absent-counted}
+use Rattle.maps.proofs.Truth.{absent-counted}
 use Rattle.image.specs.declared.answers.Read.{Read}
 use Rattle.image.specs.declared.answers.Read.the-variants as read
 use Rattle.image.specs.declared.answers.Contents.{Contents}

@@ -12,13 +12,13 @@ use lib.ListN.{length, take, drop, length-drop}
 use lib.Seq.{length-take-le}
 use Rattle.parity.specs.Shape.{columnLength}
 use Rattle.parity.specs.Presence.{present}
-use Rattle.inputs.specs.declared.maps.Map.{Map}
+use Rattle.maps.specs.declared.Map.{Map}
 use Rattle.evenodd.specs.declared.shows.Place.{Place}
 use Rattle.evenodd.specs.declared.shows.Place.the-variants.{InStripe, InBench, Refused}
-use Rattle.inputs.specs.Refusals.{pass, refuse}
+use Rattle.refusals.specs.Refusals.{pass, refuse}
 use Rattle.inputs.specs.Rules.{showRules}
 use Rattle.evenodd.specs.Shows.{half, Places, PartAt, Shows}
-use Rattle.inputs.proofs.Rules.{passes-not, gives-one}
+use Rattle.refusals.proofs.Rules.{passes-not, gives-one}
 use Rattle.evenodd.proofs.Shown.{passes, in-stripe, in-bench, stripe-fits, bench-fits}
 use Rattle.report.specs.Shown.{columnBytes, shown, Held}
 use Rattle.report.specs.Lines.{columnLine, columnLines}

@@ -14,19 +14,19 @@ use Rattle.parity.specs.Presence.{absences, Agrees}
 use Rattle.parity.specs.Theorems.{AtMostOne}
 use Rattle.parity.proofs.Theorems.{at-most-one}
 use Rattle.cells.proofs.Parts.{by-order}
-use Rattle.inputs.specs.declared.maps.Map.{Map}
+use Rattle.maps.specs.declared.Map.{Map}
 use Rattle.evenodd.specs.declared.restores.Restored.{Restored}
 use Rattle.evenodd.specs.declared.restores.Restored.the-variants as restored
-use Rattle.inputs.specs.declared.shapes.Refusal.{Refusal}
-use Rattle.inputs.specs.declared.shapes.Refusal.the-variants as refusal
-use Rattle.inputs.specs.Refusals.{numberOf, Verdict, pass, refuse, Gives}
+use Rattle.refusals.specs.declared.Refusal.{Refusal}
+use Rattle.refusals.specs.declared.Refusal.the-variants as refusal
+use Rattle.refusals.specs.Refusals.{numberOf, Verdict, pass, refuse, Gives}
 use Rattle.inputs.specs.Rules.{gapRules, restoreRules}
 use Rattle.evenodd.specs.Restores.{Restores}
-use Rattle.inputs.specs.Determined.{NewOne}
+use Rattle.maps.specs.Determined.{NewOne}
 use Rattle.evenodd.specs.Determined.{RestoresOne}
-use Rattle.inputs.proofs.Rules.{passes-not, refuse-one, gives-first, gives-next, gives-one, gives-after}
+use Rattle.refusals.proofs.Rules.{passes-not, refuse-one, gives-first, gives-next, gives-one, gives-after}
 use Rattle.inputs.proofs.Tests.{gaps-passed}
-use Rattle.inputs.proofs.Determined.{new-one}
+use Rattle.maps.proofs.Determined.{new-one}
 use Rattle.evenodd.proofs.Determined.{restores-one}
 use Rattle.image.specs.declared.answers.Read.the-variants as read
 use Rattle.image.specs.Reads.{contentsRules, Filled, ReadInto}

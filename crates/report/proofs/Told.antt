@@ -20,12 +20,12 @@ use Rattle.parity.specs.Shape.{columnLength, stripeLength, benchLength}
 use Rattle.parity.specs.Presence.{present, absences}
 use Rattle.cells.proofs.Parts.{by-order}
 use Rattle.text.specs.Text.{Wrote}
-use Rattle.inputs.specs.declared.maps.Map.{Map}
-use Rattle.inputs.specs.declared.shapes.Refusal.the-variants as refusal
-use Rattle.inputs.specs.Refusals.{pass, Gives}
-use Rattle.inputs.specs.Absent.{absentBelow}
-use Rattle.inputs.proofs.Rules.{passed-first}
-use Rattle.inputs.proofs.Presence.{absences-below}
+use Rattle.maps.specs.declared.Map.{Map}
+use Rattle.refusals.specs.declared.Refusal.the-variants as refusal
+use Rattle.refusals.specs.Refusals.{pass, Gives}
+use Rattle.maps.specs.Absent.{absentBelow}
+use Rattle.refusals.proofs.Rules.{passed-first}
+use Rattle.maps.proofs.Presence.{absences-below}
 use Rattle.image.specs.Format.{presentBelow}
 use Rattle.image.proofs.Filling.{Good}
 use Rattle.image.proofs.Laid.{image-laid}

@@ -11,9 +11,9 @@ use lib.ListN.{length, take, drop}
 use Rattle.parity.specs.Shape.{Shape, columnLength, stripeLength, benchLength}
 use Rattle.parity.specs.Presence.{present, absences}
 use Rattle.cells.specs.Runs.{Zeros}
-use Rattle.inputs.specs.declared.maps.Map.{Map}
-use Rattle.inputs.specs.Absent.{Stray}
-use Rattle.inputs.specs.Truth.{TrueMap}
+use Rattle.maps.specs.declared.Map.{Map}
+use Rattle.maps.specs.Absent.{Stray}
+use Rattle.maps.specs.Truth.{TrueMap}
 use Rattle.evenodd.specs.Shows.{half}
 
 unfoldable pub columnBytes : ℕ → ℕ → List ℕ → ℕ → List ℕ

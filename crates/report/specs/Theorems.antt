@@ -13,10 +13,10 @@ use Prim.Native.Nat.{ℕ, _+_, _-_, _≤_, _<_}
 use lib.ListN.{length, take}
 use Rattle.parity.specs.Stripe.{byte}
 use Rattle.parity.specs.Presence.{present, absences}
-use Rattle.inputs.specs.declared.maps.Map.{Map}
-use Rattle.inputs.specs.declared.shapes.Refusal.{Refusal}
-use Rattle.inputs.specs.declared.shapes.Refusal.the-variants.{StripeLength, BenchLength}
-use Rattle.inputs.specs.Refusals.{numberOf, refuse, Gives}
+use Rattle.maps.specs.declared.Map.{Map}
+use Rattle.refusals.specs.declared.Refusal.{Refusal}
+use Rattle.refusals.specs.declared.Refusal.the-variants.{StripeLength, BenchLength}
+use Rattle.refusals.specs.Refusals.{numberOf, refuse, Gives}
 use Rattle.image.specs.Reads.{contentsRules}
 use Rattle.report.specs.declared.writing.Shape.{Shape}
 use Rattle.report.specs.declared.judging.Outcome.the-variants as outcome

@@ -22,7 +22,7 @@ use Rattle.lines.specs.Lines.{Laid, Sized}
 use Rattle.lines.proofs.Lines.{column-is}
 use Rattle.lines.proofs.Cells.{at-row, cells-fit}
 use Rattle.restoring.specs.Restoring.{SameBut, RowsRestored}
-use Rattle.rewriting.specs.Rewrite.{Rewritten, BandRewritten}
+use Rattle.rewriting.specs.Rewrite.{ColumnRewritten, BandRewritten}
 
 pub laid-length : {g : Grid} {s v : List ℕ} → Laid g s → length v ≡ length s → Laid g v
 laid-length laid e = record { sized = laid .sized; some = laid .some; few = laid .few; whole = e ∙ laid .whole }
@@ -88,7 +88,7 @@ module _ (m k b u : ℕ) where
       still : (r : List ℕ) → SameBut m k b u s r → SameBut m k b u o r
       still r same l i y hl hi hy ne = p .other l i y hl hi hy ne ∙ same l i y hl hi hy ne
 
-pub bands-all : {g : Grid} {s t : List ℕ} {u : ℕ} → Laid g s → BandRewritten (g .m) (g .k) (g .b) u 0 (g .m - 1) s t → Rewritten (g .m) (g .k) (g .b) u s t
+pub bands-all : {g : Grid} {s t : List ℕ} {u : ℕ} → Laid g s → BandRewritten (g .m) (g .k) (g .b) u 0 (g .m - 1) s t → ColumnRewritten (g .m) (g .k) (g .b) u s t
 bands-all {g} {s} {t} {u} laid p = record {
   size = p .size;
   becomes = λ r valid same.

@@ -4,7 +4,7 @@ ghost use Prim.Native.Nat.{_+_, _*_, _-_, _≤_, _<_};
 ghost use lib.ListN.{length};
 ghost use Rattle.lines.specs.Lines.{Laid};
 ghost use Rattle.restoring.specs.Restoring.{Band};
-ghost use Rattle.rewriting.specs.Rewrite.{Rewritten, BandRewritten};
+ghost use Rattle.rewriting.specs.Rewrite.{ColumnRewritten, BandRewritten};
 
 // A band of n rows of column u, from row `first` on, becomes what the other columns say: it is restored to room, and copied to its place.
 fn rewrite_band(room: &mut [u8], s: &mut [u8], g: Grid, u: usize, first: usize, n: usize)
@@ -22,7 +22,7 @@ fn rewrite_band(room: &mut [u8], s: &mut [u8], g: Grid, u: usize, first: usize, 
 // Column u becomes what the other columns say, in bands of as many rows as have room.
 fn rewrite_in(room: &mut [u8], s: &mut [u8], g: Grid, u: usize)
     requires { ⌜ (u < g .k + 2) × (g .b ≤ length (now room)) × (g .b < 128 → g .column ≤ length (now room)) × Laid g (now s) ⌝ }
-    ensures { λ _. ⌜ Rewritten (g .m) (g .k) (g .b) u (now (s .entry)) (now (s .exit)) ⌝ }
+    ensures { λ _. ⌜ ColumnRewritten (g .m) (g .k) (g .b) u (now (s .entry)) (now (s .exit)) ⌝ }
 {
     let b = g.b;
     let rows = g.m - 1;
@@ -38,7 +38,7 @@ fn rewrite_in(room: &mut [u8], s: &mut [u8], g: Grid, u: usize)
 // Column u becomes that, with room for a column of at most 2,048 bytes: room is cleared before it is used.
 fn rewrite_small(s: &mut [u8], g: Grid, u: usize)
     requires { ⌜ (g .column ≤ 2048) × Laid g (now s) × (u < g .k + 2) ⌝ }
-    ensures { λ _. ⌜ Rewritten (g .m) (g .k) (g .b) u (now (s .entry)) (now (s .exit)) ⌝ }
+    ensures { λ _. ⌜ ColumnRewritten (g .m) (g .k) (g .b) u (now (s .entry)) (now (s .exit)) ⌝ }
 {
     let mut room = [0u8; 2048];
     rewrite_in(&mut room, s, g, u);
@@ -47,7 +47,7 @@ fn rewrite_small(s: &mut [u8], g: Grid, u: usize)
 // Column u becomes that, with room for four cells of any length, and for any column of short ones.
 fn rewrite_large(s: &mut [u8], g: Grid, u: usize)
     requires { ⌜ Laid g (now s) × (u < g .k + 2) ⌝ }
-    ensures { λ _. ⌜ Rewritten (g .m) (g .k) (g .b) u (now (s .entry)) (now (s .exit)) ⌝ }
+    ensures { λ _. ⌜ ColumnRewritten (g .m) (g .k) (g .b) u (now (s .entry)) (now (s .exit)) ⌝ }
 {
     let mut room = [0u8; 16384];
     rewrite_in(&mut room, s, g, u);
@@ -56,7 +56,7 @@ fn rewrite_large(s: &mut [u8], g: Grid, u: usize)
 // Where the other columns fit a valid stripe, column u becomes that of it. It is not read.
 pub fn rewrite(s: &mut [u8], g: Grid, u: usize)
     requires { ⌜ Laid g (now s) × (u < g .k + 2) ⌝ }
-    ensures { λ _. ⌜ Rewritten (g .m) (g .k) (g .b) u (now (s .entry)) (now (s .exit)) ⌝ }
+    ensures { λ _. ⌜ ColumnRewritten (g .m) (g .k) (g .b) u (now (s .entry)) (now (s .exit)) ⌝ }
 {
     if g.column <= 2048 {
         rewrite_small(s, g, u);

@@ -6,8 +6,8 @@ use mathlib.Core.Path.{_≡_}
 use mathlib.Core.List.{List}
 use Prim.Native.Nat.{ℕ, _≤_}
 use lib.ListN.{length, take, drop}
-use Rattle.inputs.specs.Refusals.{numberOf}
-use Rattle.inputs.specs.declared.shapes.Refusal.the-variants.{Malformed}
+use Rattle.refusals.specs.Refusals.{numberOf}
+use Rattle.refusals.specs.declared.Refusal.the-variants.{Malformed}
 use Rattle.report.specs.Lines.{answerLine}
 use Rattle.report.specs.Reports.{Reports}
 use Rattle.shelf.specs.declared.reading.Input.{Input}

@@ -16,7 +16,7 @@ use Rattle.parity.specs.Stripe.{lane}
 use Rattle.parity.proofs.Xor.{xor}
 use Rattle.lines.specs.Lines.{real}
 use Rattle.lines.proofs.Lines.{real-in, real-out}
-use Rattle.walk.specs.Walk.{Column, Reaches, Turned, Mixed, Walked}
+use Rattle.walk.specs.Walk.{Column, Reaches, Stepped, Mixed, Walked}
 use Rattle.walk.proofs.Rows.{visit, visit-start, visit-before, visit-apart, visit-real, visit-all}
 
 -- row i is parted
@@ -36,7 +36,7 @@ pub record Halves (m b δ n : ℕ) (w v : List ℕ) : Type 0 where
   pub lanes : (f g : Column) → Mixed m b δ w f g → (l : ℕ) → l < b → Half m δ n (lane m b v l) (λ i. f i l) (λ i. g i l)
 
 -- a step parts the row that it comes to
-parts : (m from to : ℕ) (a c : Lane) (f g : ℕ → ℕ) → Turned m from to a c → Joint a f g from to → real m a from 0 ≡ f from → Apart c f g to
+parts : (m from to : ℕ) (a c : Lane) (f g : ℕ → ℕ) → Stepped m from to a c → Joint a f g from to → real m a from 0 ≡ f from → Apart c f g to
 parts m from to a c f g t (p, q) e = (t .first ∙ ap₂ _⊕_ p second ∙ simp xor, second)
   where
     second : c to 1 ≡ g to
@@ -55,7 +55,7 @@ module _ (m δ : ℕ) (big : 1 < m) (low : δ ≤ m) (ok : Reaches m δ) where
     taken zero a z h q = subst (λ (i : ℕ). real m a i 0 ≡ f i) (sym (visit-start m δ big)) (real-out m a (m - 1) 0 (omega arith) ∙ sym z)
     taken (suc n) a z h q = real-in m a (visit m δ (suc n)) 0 (visit-real m δ big ok n (omega arith)) ∙ q .done n (omega arith) .0
 
-    half-more : (n : ℕ) (a c : Lane) → f (m - 1) ≡ 0 → n < m - 1 → Turned m (visit m δ n) (visit m δ (suc n)) a c → Half m δ n a f g → Half m δ (n + 1) c f g
+    half-more : (n : ℕ) (a c : Lane) → f (m - 1) ≡ 0 → n < m - 1 → Stepped m (visit m δ n) (visit m δ (suc n)) a c → Half m δ n a f g → Half m δ (n + 1) c f g
     half-more n a c z h t q = record {
       done = below-more (λ (x : ℕ). Apart c f g (visit m δ (suc x))) n
           (λ x hx. let o = still x (omega arith) (omega arith) in let d = q .done x hx in (o .0 ∙ d .0, o .1 ∙ d .1))
@@ -77,7 +77,7 @@ module _ (m δ : ℕ) (big : 1 < m) (low : δ ≤ m) (ok : Reaches m δ) where
     }
 
     pub halves-more : {n from to : ℕ} {u v : List ℕ} → n < m - 1 → from ≡ visit m δ n → to ≡ visit m δ (suc n) → length v ≡ length u
-        → ((l : ℕ) → l < b → Turned m from to (lane m b u l) (lane m b v l)) → Halves m b δ n w u → Halves m b δ (n + 1) w v
+        → ((l : ℕ) → l < b → Stepped m from to (lane m b u l) (lane m b v l)) → Halves m b δ n w u → Halves m b δ (n + 1) w v
     halves-more {n} {from} {to} {u} {v} h e₁ e₂ size t q = record {
       size = size ∙ q .size;
       lanes = λ f g x l hl. half-more (λ i. f i l) (λ i. g i l) n (lane m b u l) (lane m b v l) (x .last l hl) h (rw (← e₁, ← e₂) (t l hl)) (q .lanes f g x l hl);

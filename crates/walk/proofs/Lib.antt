@@ -1,4 +1,4 @@
 pub mod Rows
-pub mod Turns
+pub mod Steps
 pub mod Halves
 pub mod Callers

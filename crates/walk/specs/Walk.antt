@@ -1,7 +1,7 @@
 -- Two columns that stand mixed with one another in the halves of a buffer, and parted. `lane m b w l i 0` is byte l of row i of the first half,
 -- `lane m b w l i 1` that of the second. Of a column f, `f i l` is byte l of row i.
 --   Reaches m δ             steps of δ rows, modulo m, come to every row
---   Turned m from to a c    lane a became c: row `from` of the first half was added to row `to` of the second, and that to row `to` of the first
+--   Stepped m from to a c   lane a became c: row `from` of the first half was added to row `to` of the second, and that to row `to` of the first
 --   Mixed m b δ w f g       the first half is f plus g, the second f, turned by δ rows, plus g; row m - 1 of f, which is imaginary, is zero
 --   Parted m b w f g        the first half is f, the second g, and there is no more
 --   Walked m b δ w v        whatever columns stand mixed in w stand parted in v, which is as long
@@ -23,7 +23,7 @@ pub record Reaches (m δ : ℕ) : Type 0 where
   pub inverse : ℕ
   pub undone : (m - δ) * inverse % m ≡ 1
 
-pub record Turned (m from to : ℕ) (a c : Lane) : Type 0 where
+pub record Stepped (m from to : ℕ) (a c : Lane) : Type 0 where
   pub second : c to 1 ≡ a to 1 ⊕ real m a from 0
   pub first : c to 0 ≡ a to 0 ⊕ c to 1
   pub other : (i : ℕ) → i < m - 1 → i ≢ to → (c i 0 ≡ a i 0) × (c i 1 ≡ a i 1)

@@ -5,13 +5,13 @@ ghost use Prim.Native.Nat.{ℕ, _*_, _-_, _≤_, _<_};
 ghost use lib.ListN.{length};
 ghost use Rattle.parity.specs.Stripe.{lane};
 ghost use Rattle.lines.specs.Lines.{Sized};
-ghost use Rattle.walk.specs.Walk.{Reaches, Turned, Walked};
+ghost use Rattle.walk.specs.Walk.{Reaches, Stepped, Walked};
 
 // One step of the walk: adds row `from` of the first half to row `to` of the second, and that to row `to` of the first. Row m - 1 is
 // imaginary, and zero.
-fn turn(w: &mut [u8], g: Grid, from: usize, to: usize)
+fn step(w: &mut [u8], g: Grid, from: usize, to: usize)
     requires { ⌜ (length (now w) ≡ 2 * g .column) × Sized (g .m) (g .b) (g .column) × (to < g .m - 1) ⌝ }
-    ensures { λ _. ⌜ ((l : ℕ) → l < g .b → Turned (g .m) from to (lane (g .m) (g .b) (now (w .entry)) l) (lane (g .m) (g .b) (now (w .exit)) l)) ⌝ }
+    ensures { λ _. ⌜ ((l : ℕ) → l < g .b → Stepped (g .m) from to (lane (g .m) (g .b) (now (w .entry)) l) (lane (g .m) (g .b) (now (w .exit)) l)) ⌝ }
 {
     let m = g.m;
     let b = g.b;
@@ -35,7 +35,7 @@ pub fn walk(w: &mut [u8], g: Grid, delta: usize)
     let mut r = m - 1;
     for n in 0..m - 1 {
         let to = lines::row_above(m, r, delta);
-        turn(w, g, r, to);
+        step(w, g, r, to);
         r = to;
     }
 }

@@ -1,6 +1,6 @@
 // Words, numbers, bytes and maps as text in a lent buffer. Each function writes at a place and answers the place after it; where there is no room it writes nothing, and
 // answers the place. So the answer is never before the place, nor further from it than the text is long.
-use inputs::Map;
+use maps::Map;
 ghost use Prim.Native.Nat.{_+_, _≤_};
 ghost use lib.ListN.{length};
 

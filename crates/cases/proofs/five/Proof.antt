@@ -9,10 +9,10 @@ use lib.Dec.{eqb, ltb}
 use borrow.Author.Needs.{needs}
 use borrow.Author.Tests.{lt-ltb, le-ltb, eq-eqb, ne-eqb}
 use Rattle.parity.specs.Presence.{present}
-use Rattle.inputs.specs.declared.maps.Map.{Map}
-use Rattle.inputs.specs.Maps.{Marks}
-use Rattle.inputs.specs.Truth.{TrueMap}
-use Rattle.inputs.proofs.Rules.{gives-next}
+use Rattle.maps.specs.declared.Map.{Map}
+use Rattle.maps.specs.Maps.{Marks}
+use Rattle.maps.specs.Truth.{TrueMap}
+use Rattle.refusals.proofs.Rules.{gives-next}
 use Rattle.cases.proofs.five.Statement.{statement}
 use Rattle.cases.proofs.five.Tie as tie
 

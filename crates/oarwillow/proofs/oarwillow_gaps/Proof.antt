@@ -4,9 +4,9 @@ use mathlib.Core.Logic.{by-cases}
 use Prim.Native.Nat.{ℕ, _+_, _≤_, _<_}
 use native.Mathlib.Decide.{decLt}
 use native.Mathlib.Omega.{arith}
-use Rattle.inputs.specs.declared.maps.Gaps.{Gaps}
-use Rattle.inputs.specs.declared.maps.Map.{Map}
-use Rattle.inputs.specs.Maps.{FindsGaps}
+use Rattle.maps.specs.declared.Gaps.{Gaps}
+use Rattle.maps.specs.declared.Map.{Map}
+use Rattle.maps.specs.Maps.{FindsGaps}
 use Rattle.oarwillow.proofs.oarwillow_gaps.Statement.{statement}
 use Rattle.oarwillow.proofs.oarwillow_gaps.Tie as tie
 

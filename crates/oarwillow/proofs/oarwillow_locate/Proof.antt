@@ -1,6 +1,6 @@
 -- `oarwillow::oarwillow_locate` meets its contract: the answer is locate's, what it found and names is written, and each arm returns its number.
 use mathlib.Core.Path.{_≡_, sym, ap, _∙_}
-use Rattle.inputs.specs.Refusals.{answerNumber}
+use Rattle.refusals.specs.Refusals.{answerNumber}
 use Rattle.evenodd.specs.declared.locates.Located.{Located}
 use Rattle.evenodd.specs.Locates.{verdictOf}
 use borrow.Author.Needs.{needs}

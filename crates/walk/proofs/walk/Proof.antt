@@ -39,8 +39,8 @@ row-above-requires c κs =
     let y = c .before .loop in
     (subst (λ (x : ℕ). x < z .args .g .m) (sym (y .inv .2)) (visit-lt (z .args .g .m) (z .args .delta) (z .pre .1 .big) (y .n)), omega arith, z .pre .1 .few)
 
-turn-requires : tie.Need-turn-requires Inv-loop μ-loop
-turn-requires c κs =
+step-requires : tie.Need-step-requires Inv-loop μ-loop
+step-requires c κs =
     let z = c .before .before .before .before .before in
     let a = z .args in
     let y = c .before .before .before .loop in
@@ -65,7 +65,7 @@ loop-again c =
       y .inv .0,
       omega arith,
       e ∙ ap (visit (a .g .m) (a .delta)) (sym (add-one (y .n))),
-      halves-more (a .g .m) (a .delta) (z .pre .1 .big) (z .pre .2) (z .pre .3) (a .g .b) (omega arith) (y .inv .2) e (omega arith) (c .before .before .turn .ensures) (y .inv .3),
+      halves-more (a .g .m) (a .delta) (z .pre .1 .big) (z .pre .2) (z .pre .3) (a .g .b) (omega arith) (y .inv .2) e (omega arith) (c .before .before .step .ensures) (y .inv .3),
     )
 
 same-length : tie.Need-same-length Inv-loop μ-loop
@@ -90,7 +90,7 @@ walk-spec =
     sub-n-end
     loop-holds
     row-above-requires
-    turn-requires
+    step-requires
     add-n
     loop-less
     loop-again

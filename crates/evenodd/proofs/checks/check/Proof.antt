@@ -4,9 +4,9 @@ use mathlib.Core.List.{[]}
 use lib.ListN.{length}
 use native.Mathlib.Omega.{arith}
 use denote.Ref.{now}
-use Rattle.inputs.specs.Refusals.{pass, Gives}
+use Rattle.refusals.specs.Refusals.{pass, Gives}
 use Rattle.inputs.specs.Rules.{stripeRules}
-use Rattle.inputs.proofs.Rules.{passes-not}
+use Rattle.refusals.proofs.Rules.{passes-not}
 use Rattle.inputs.proofs.Tests.{told-refused, Numbers, stripe-good}
 use Rattle.inputs.proofs.Stripe.{stripe-passed}
 use Rattle.evenodd.proofs.Laid.{laid, parity-inside}

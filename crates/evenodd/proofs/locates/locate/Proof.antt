@@ -5,7 +5,7 @@ use lib.ListN.{length}
 use native.Mathlib.Omega.{arith}
 use denote.Ref.{now}
 use Rattle.parity.specs.Stripe.{Stripe}
-use Rattle.locating.specs.Locating.{Located}
+use Rattle.locating.specs.Locating.{Blamed}
 use Rattle.inputs.specs.Rules.{unmendable, stripeRules}
 use Rattle.inputs.proofs.Tests.{told-refused, Numbers, stripe-good}
 use Rattle.evenodd.proofs.Laid.{laid, parity-inside}
@@ -71,20 +71,20 @@ returns-3 : tie.Need-returns-3
 returns-3 c =
     let z = c .before .before .before .before .before in
     let a = z .before .before .before .before .before .args in
-    locate-intact (a .m) (a .k) (a .b) (good z .shape) (now (a .stripe)) (stripe z) (subst (Located (a .m) (a .k) (a .b) (now (a .stripe))) (c .enum-told2 .given .1) (c .before .before .locate .ensures))
+    locate-intact (a .m) (a .k) (a .b) (good z .shape) (now (a .stripe)) (stripe z) (subst (Blamed (a .m) (a .k) (a .b) (now (a .stripe))) (c .enum-told2 .given .1) (c .before .before .locate .ensures))
     (no-zeros-tell (a .m) (a .k) (a .b) (now (a .stripe)) _ (c .before .before .before .before .is-blank .ensures) (good z .shape) (good z .stripe) (c .before .before .before .if1 .left))
 
 returns-4 : tie.Need-returns-4
 returns-4 c =
     let z = c .before .before .before .before .before in
     let a = z .before .before .before .before .before .args in
-    locate-nobody (a .m) (a .k) (a .b) (good z .shape) (now (a .stripe)) (stripe z) (subst (Located (a .m) (a .k) (a .b) (now (a .stripe))) (c .enum-told3 .given .1) (c .before .before .locate .ensures) .1)
+    locate-nobody (a .m) (a .k) (a .b) (good z .shape) (now (a .stripe)) (stripe z) (subst (Blamed (a .m) (a .k) (a .b) (now (a .stripe))) (c .enum-told3 .given .1) (c .before .before .locate .ensures) .1)
 
 returns-5 : tie.Need-returns-5
 returns-5 c =
     let z = c .before .before .before .before .before .before in
     let a = z .before .before .before .before .before .args in
-    let found = subst (Located (a .m) (a .k) (a .b) (now (a .stripe))) (c .before .u .given .1) (c .before .before .before .locate .ensures) in
+    let found = subst (Blamed (a .m) (a .k) (a .b) (now (a .stripe))) (c .before .u .given .1) (c .before .before .before .locate .ensures) in
     locate-column (a .m) (a .k) (a .b) (good z .shape) (now (a .stripe)) (stripe z) _ (found .0) (found .1) (found .2)
 
 pub locate-spec : {M : Type 1} → statement M

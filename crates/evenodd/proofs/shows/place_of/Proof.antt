@@ -5,10 +5,10 @@ use lib.ListN.{length}
 use denote.Ref.{now}
 use Prim.Native.Nat.{_+_}
 use Rattle.parity.specs.Shape.{columnLength}
-use Rattle.inputs.specs.Absent.{Counts}
+use Rattle.maps.specs.Absent.{Counts}
 use Rattle.inputs.proofs.Shape.{places-most}
 use Rattle.inputs.proofs.Tests.{Lent, lent-good}
-use Rattle.inputs.proofs.Truth.{absent-counted}
+use Rattle.maps.proofs.Truth.{absent-counted}
 use Rattle.evenodd.proofs.Shown.{NotRefused, show-refused, show-7, show-4, show-named, start-most, show-stripe, show-first, show-second}
 use Rattle.evenodd.proofs.shows.place_of.Statement.{statement}
 use Rattle.evenodd.proofs.shows.place_of.Tie as tie

@@ -5,11 +5,11 @@ use mathlib.Core.List.{[], _∷_}
 use Prim.Native.Nat.{_+_, _≤_}
 use native.Mathlib.Omega.{arith}
 use Rattle.parity.specs.Presence.{absences}
-use Rattle.inputs.specs.Truth.{absentByCount}
+use Rattle.maps.specs.Truth.{absentByCount}
 use Rattle.inputs.specs.Rules.{tooManyAbsent, lentRules}
-use Rattle.inputs.proofs.Rules.{gives-first, gives-next, gives-after}
+use Rattle.refusals.proofs.Rules.{gives-first, gives-next, gives-after}
 use Rattle.inputs.proofs.Shape.{places-most}
-use Rattle.inputs.proofs.Truth.{absent-counted}
+use Rattle.maps.proofs.Truth.{absent-counted}
 use Rattle.inputs.proofs.Tests.{told-refused, Lent, lent-good}
 use Rattle.inputs.proofs.lent.judge_gaps.Statement.{statement}
 use Rattle.inputs.proofs.lent.judge_gaps.Tie as tie

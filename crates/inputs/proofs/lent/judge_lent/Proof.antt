@@ -7,13 +7,13 @@ use Prim.Native.Nat.{ℕ, _+_, _*_}
 use native.Mathlib.Omega.{arith}
 use Rattle.parity.specs.Shape.{benchLength}
 use borrow.Author.Tests.{not-true, not-false}
-use Rattle.inputs.specs.declared.maps.Map.{Map}
-use Rattle.inputs.specs.Refusals.{Rule}
+use Rattle.maps.specs.declared.Map.{Map}
+use Rattle.refusals.specs.Refusals.{Rule}
 use Rattle.inputs.specs.Rules.{benchLengthDiffers, stripeRules, mapRules}
-use Rattle.inputs.specs.Truth.{TrueMap}
-use Rattle.inputs.proofs.Rules.{gives-first, gives-next, gives-after}
+use Rattle.maps.specs.Truth.{TrueMap}
+use Rattle.refusals.proofs.Rules.{gives-first, gives-next, gives-after}
 use Rattle.inputs.proofs.Shape.{places-most, parts-most}
-use Rattle.inputs.proofs.Truth.{from-highest}
+use Rattle.maps.proofs.Truth.{from-highest}
 use Rattle.inputs.proofs.Tests.{passed-on, told-passed, Numbers, stripe-good}
 use Rattle.inputs.proofs.lent.judge_lent.Statement.{statement}
 use Rattle.inputs.proofs.lent.judge_lent.Tie as tie

@@ -5,7 +5,7 @@ use Prim.Native.Nat.{ℕ, _+_, _*_}
 use native.Mathlib.Omega.{arith}
 use Rattle.parity.specs.Shape.{Shape, columnLength, stripeLength}
 use Rattle.inputs.specs.Rules.{stripeLengthDiffers, shapeRules}
-use Rattle.inputs.proofs.Rules.{gives-first, gives-next}
+use Rattle.refusals.proofs.Rules.{gives-first, gives-next}
 use Rattle.inputs.proofs.Shape.{places-most, parts-most, judged-good, after-shape}
 use Rattle.inputs.proofs.Tests.{passed-on}
 use Rattle.inputs.proofs.lent.judge_stripe.Statement.{statement}

@@ -18,8 +18,8 @@ xor-into-requires c κs =
     let p = c .before .before .before .before .before .before .before .before .before .before .pre in
     omega (arith, c .before .before .before .before .take-lane .ensures .size, p .0 .room, p .2 .rows)
 
-add-turned-requires : tie.Need-add-turned-requires
-add-turned-requires c κs =
+add-turned-lane-requires : tie.Need-add-turned-lane-requires
+add-turned-lane-requires c κs =
     let p = c .before .before .before .before .before .before .before .before .before .before .before .before .before .before .before .pre in
     let x = c .before .before .before .before .before .before .before .before .before .take-lane .ensures .size in
     (omega (arith, x, p .0 .room, p .2 .diagonals), omega (arith, x, p .0 .room, p .0 .laid .few, p .1))
@@ -31,14 +31,14 @@ same-length-2 : tie.Need-same-length-2
 same-length-2 c = c .before .before .before .before .before .before .before .xor-into .ensures .size
 
 same-length-3 : tie.Need-same-length-3
-same-length-3 c = c .before .before .add-turned .ensures .size
+same-length-3 c = c .before .before .add-turned-lane .ensures .size
 
 returns : tie.Need-returns
 returns c =
     let z = c .before .before .before .before .before .before .before .before .before .before .before .before .before .before .before .before .before .before in
     let a = z .args in
     let x = c .before .before .before .before .before .before .before .before .before .before .before .before .take-lane in
-    summed-next (a .g .m) (lane (a .g .m) (a .g .b) (now (a .s)) (a .l)) (a .t) (z .pre .2) (x .last .0) (put-start (x .ensures)) (x .ensures .size ∙ z .pre .0 .room) (c .before .before .before .before .before .before .before .xor-into .ensures) (c .before .before .add-turned .ensures)
+    summed-next (a .g .m) (lane (a .g .m) (a .g .b) (now (a .s)) (a .l)) (a .t) (z .pre .2) (x .last .0) (put-start (x .ensures)) (x .ensures .size ∙ z .pre .0 .room) (c .before .before .before .before .before .before .before .xor-into .ensures) (c .before .before .add-turned-lane .ensures)
 
 pub add-lane-spec : {M : Type 1} → statement M
 add-lane-spec =
@@ -46,7 +46,7 @@ add-lane-spec =
     (tie.spec
     take-lane-requires
     xor-into-requires
-    add-turned-requires
+    add-turned-lane-requires
     same-length
     same-length-2
     same-length-3
