@@ -27,7 +27,7 @@
 #include <stddef.h>
 #include <stdint.h>
 
-#define OARWILLOW_VERSION "0.7.0"
+#define OARWILLOW_VERSION "0.8.0"
 
 /* Why a call is refused. Other numbers are never given. */
 enum oarwillow_refusal {

@@ -1,6 +1,4 @@
 -- Laws of a report.
-pub mod Shown
-pub mod Blank
-pub mod Judged
+pub mod Lines
 pub mod Told
 pub mod Theorems

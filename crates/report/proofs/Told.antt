@@ -1,74 +1,44 @@
 -- What is known of a judged image where its report is written.
---   small          an image of at most 16,384 bytes with at most two columns absent: a column is at most 16,352 bytes, and so are k of them
---   most           so its shape asks for a stripe of at most 49,056 bytes and a bench of at most 32,704
+--   text-room      the text of an image of at most 16,384 bytes with at most two columns absent has at most 102,400 bytes
 --   Told, told     an outcome that names a shape: the image is short enough and well formed
 --   told-fits      the numbers of the shape have at most four digits
 --   tellable       where every column is there, the columns can be shown, and their text has room
 --   held-lent, text-lent    the same of the parts of the stripe and of the bench as they are lent
 --   reports-start  text that is written at the start of the buffer is the report
-use mathlib.Core.Path.{_≡_, refl, sym, ap, _∙_}
+use mathlib.Core.Path.{_≡_, sym, ap, _∙_}
 use mathlib.Core.Logic.{_⊎_, inl, inr}
-use mathlib.Core.Bool.{Bool, true, false, not, cond}
+use mathlib.Core.Bool.{Bool}
 use mathlib.Core.List.{List, _++_}
-use Prim.Native.Nat.{ℕ, zero, suc, _+_, _*_, _-_, _≤_, _<_}
-use native.Mathlib.Nat.{add-mul, mul-add, mul-comm, mul-assoc, mul-le-mul-right}
+use Prim.Native.Nat.{ℕ, _+_, _*_, _-_, _≤_, _<_}
+use native.Mathlib.Nat.{add-mul, mul-add, mul-comm, mul-assoc}
 use native.Mathlib.Omega.{arith}
 use lib.ListN.{length, take, drop}
 use lib.Seq.{length-take-le, take-all}
-use Rattle.parity.specs.Sum.{count}
-use Rattle.parity.specs.Shape.{columnLength, stripeLength, benchLength}
-use Rattle.parity.specs.Presence.{present, absences}
+use Rattle.parity.specs.Shape.{columnLength}
+use Rattle.parity.specs.Presence.{absences}
 use Rattle.cells.proofs.Parts.{by-order}
 use Rattle.text.specs.Text.{Wrote}
 use Rattle.maps.specs.declared.Map.{Map}
 use Rattle.refusals.specs.declared.Refusal.the-variants as refusal
 use Rattle.refusals.specs.Refusals.{pass, Gives}
-use Rattle.maps.specs.Absent.{absentBelow}
 use Rattle.refusals.proofs.Rules.{passed-first}
-use Rattle.maps.proofs.Presence.{absences-below}
-use Rattle.image.specs.Format.{presentBelow}
 use Rattle.image.proofs.Filling.{Good}
-use Rattle.image.proofs.Laid.{image-laid}
-use Rattle.report.specs.declared.writing.Shape.{Shape}
-use Rattle.report.specs.declared.judging.Outcome.{Outcome}
-use Rattle.report.specs.declared.judging.Outcome.the-variants as outcome
-use Rattle.report.specs.declared.judging.Judgement.{Judgement}
-use Rattle.report.specs.Shown.{shown, Held}
+use Rattle.judging.specs.declared.Shape.{Shape}
+use Rattle.judging.specs.declared.Outcome.{Outcome}
+use Rattle.judging.specs.declared.Outcome.the-variants as outcome
+use Rattle.judging.specs.declared.Judgement.{Judgement}
+use Rattle.judging.specs.Shown.{shown, Held}
 use Rattle.report.specs.Lines.{shapeLine, columnLines, doneLine}
-use Rattle.report.specs.Judgements.{Formed, stripeOf, benchOf, formedRules, InParts, Leaves, JudgesFormed, JudgesImage}
+use Rattle.judging.specs.Judgements.{Formed, stripeOf, benchOf, formedRules, InParts, Leaves, JudgesFormed, JudgesImage}
 use Rattle.report.specs.Reports.{completeText, textOf, Tellable, Reports}
-use Rattle.report.proofs.Judged.{by-contents, formed-good, formed-truth, not-stray, bench-size}
-
--- each place is present or absent
-present-absent : (n : ℕ) (map : List Bool) → presentBelow n map + absentBelow n map ≡ n
-unfolding presentBelow absentBelow count
-present-absent zero map = refl
-present-absent (suc n) map = go (present map n) (count n (present map)) (count n (λ x. not (present map x))) (present-absent n map)
-  where
-    go : (p : Bool) (x y : ℕ) → x + y ≡ n → cond p (suc x) x + cond (not p) (suc y) y ≡ suc n
-    go true x y e = omega arith
-    go false x y e = omega arith
+use Rattle.judging.proofs.Sizes.{small}
+use Rattle.judging.proofs.Judged.{by-contents, formed-good, formed-truth, not-stray, bench-size}
 
 module _ {image : List ℕ} {m k b : ℕ} {map : List Bool} (g : Good image m k b map) (short : length image ≤ 16384) (few : absences k map ≤ 2) where
-  pub small : (k * columnLength m b ≤ 16352) × (columnLength m b ≤ 16352)
-  small =
-      let c = columnLength m b in
-      let w = g .formed in
-      let size = image-laid m k b map (w .stripe) (w .sized .whole) image (w .same) .size in
-      let there : k ≤ presentBelow (k + 2) map = omega (arith, present-absent (k + 2) map, absences-below k map) in
-      let some : k * c ≤ presentBelow (k + 2) map * c = mul-le-mul-right c there in
-      let one : 1 * c ≤ k * c = mul-le-mul-right c (g .shape .real) in
-      let real = g .shape .real in
-      (omega arith, omega arith)
-
-  pub most : (stripeLength m k b ≤ 49056) × (benchLength m b ≤ 32704)
-  unfolding stripeLength benchLength
-  most = let (all, one) = small in (omega (arith, add-mul k 2 (columnLength m b)), omega arith)
-
   text-room : 36 + (k + 2) * (15 + 2 * columnLength m b) ≤ 102400
   text-room =
       let c = columnLength m b in
-      let (all, one) = small in
+      let (all, one) = small g short few in
       let two : k * (2 * c) ≡ 2 * (k * c) = sym (mul-assoc k 2 c) ∙ ap (λ (x : ℕ). x * c) (mul-comm k 2) ∙ mul-assoc 2 k c in
       let s = g .shape in
       omega (arith, add-mul k 2 (15 + 2 * c), mul-add k 15 (2 * c), s .few, s .value .most)

@@ -14,13 +14,13 @@ use Rattle.maps.specs.declared.Map.{Map}
 use Rattle.refusals.specs.declared.Refusal.{Refusal}
 use Rattle.refusals.specs.declared.Refusal.the-variants as refusal
 use Rattle.refusals.specs.Refusals.{refuse, answerNumber}
-use Rattle.report.specs.declared.writing.Shape.{Shape}
-use Rattle.report.specs.declared.judging.Outcome.{Outcome}
-use Rattle.report.specs.declared.judging.Outcome.the-variants.{Complete, Blank, Ambiguous, Contradicted, Refused}
-use Rattle.report.specs.declared.judging.Judgement.{Judgement}
-use Rattle.report.specs.Shown.{shown, Held}
+use Rattle.judging.specs.declared.Shape.{Shape}
+use Rattle.judging.specs.declared.Outcome.{Outcome}
+use Rattle.judging.specs.declared.Outcome.the-variants.{Complete, Blank, Ambiguous, Contradicted, Refused}
+use Rattle.judging.specs.declared.Judgement.{Judgement}
+use Rattle.judging.specs.Shown.{shown, Held}
 use Rattle.report.specs.Lines.{shapeLine, columnLines, answerLine, doneLine}
-use Rattle.report.specs.Judgements.{stripeOf, benchOf, JudgesImage}
+use Rattle.judging.specs.Judgements.{stripeOf, benchOf, JudgesImage}
 
 abbrev pub refusedText : Shape → Refusal → List ℕ
 refusedText shape f = shapeLine (shape .m) (shape .k) (shape .b) ++ answerLine (answerNumber (refuse f))

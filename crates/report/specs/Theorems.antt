@@ -1,34 +1,16 @@
--- What follows from the promises of the report. Each statement is a type, which proofs/Theorems inhabits.
---   JudgesImageOne   two judgements that meet the promise are equal, and so are the stripe and the bench after them
+-- What follows from the promise of the report. Each statement is a type, which proofs/Theorems inhabits.
 --   ReportsOne       two reports that meet the promise are equal: the length, `out`, the stripe and the bench, and what was judged
 --   AnswerAlone      of an image whose contents are refused, with 8, 1, 12 or 13, the text is the answer line alone
---   BlankTold        of a well-formed image with at most two columns absent, where enough is lent: it is judged blank exactly when every byte of the
---                    present columns is zero
---   Enough           a stripe of 49,056 bytes and a bench of 32,704 are enough for every image: the refusals 2 and 3 are never given
 use mathlib.Core.Path.{_≡_}
-use mathlib.Core.Logic.{_≢_, _↔_}
-use mathlib.Core.Bool.{Bool, true}
 use mathlib.Core.List.{List}
-use Prim.Native.Nat.{ℕ, _+_, _-_, _≤_, _<_}
+use Prim.Native.Nat.{ℕ, _≤_}
 use lib.ListN.{length, take}
-use Rattle.parity.specs.Stripe.{byte}
-use Rattle.parity.specs.Presence.{present, absences}
-use Rattle.maps.specs.declared.Map.{Map}
 use Rattle.refusals.specs.declared.Refusal.{Refusal}
-use Rattle.refusals.specs.declared.Refusal.the-variants.{StripeLength, BenchLength}
 use Rattle.refusals.specs.Refusals.{numberOf, refuse, Gives}
 use Rattle.image.specs.Reads.{contentsRules}
-use Rattle.report.specs.declared.writing.Shape.{Shape}
-use Rattle.report.specs.declared.judging.Outcome.the-variants as outcome
-use Rattle.report.specs.declared.judging.Judgement.{Judgement}
+use Rattle.judging.specs.Judgements.{longest}
 use Rattle.report.specs.Lines.{answerLine}
-use Rattle.report.specs.Judgements.{longest, Formed, stripeOf, benchOf, JudgesImage}
 use Rattle.report.specs.Reports.{Reports}
-
-unfoldable pub JudgesImageOne : Type 0
-JudgesImageOne = (image s bench after after′ benched benched′ : List ℕ) (r r′ : Judgement)
-    → JudgesImage image s after bench benched r → JudgesImage image s after′ bench benched′ r′
-    → (r ≡ r′) × (after ≡ after′) × (benched ≡ benched′)
 
 unfoldable pub ReportsOne : Type 0
 ReportsOne = (image s bench before after after′ benched benched′ out out′ : List ℕ) (r r′ : ℕ)
@@ -38,16 +20,3 @@ ReportsOne = (image s bench before after after′ benched benched′ out out′ 
 unfoldable pub AnswerAlone : Type 0
 AnswerAlone = (image s after bench benched before out : List ℕ) (r : ℕ) (f : Refusal) → Reports image s after bench benched before out r
     → length image ≤ longest → Gives (contentsRules image) (refuse f) → take r out ≡ answerLine (numberOf f)
-
--- every byte of the present columns of s is zero
-abbrev pub PresentZeros : ℕ → ℕ → ℕ → List Bool → List ℕ → Type 0
-PresentZeros m k b map s = (l i t : ℕ) → l < b → i < m - 1 → t < k + 2 → present map t ≡ true → byte m b s l i t ≡ 0
-
-unfoldable pub BlankTold : Type 0
-BlankTold = (image s after bench benched : List ℕ) (r : Judgement) (shape : Shape) (map : Map) → JudgesImage image s after bench benched r
-    → length image ≤ longest → Formed image shape map → absences (shape .k) (map .places) ≤ 2 → stripeOf shape ≤ length s → benchOf shape ≤ length bench
-    → (r .outcome ≡ outcome.Blank shape) ↔ PresentZeros (shape .m) (shape .k) (shape .b) (map .places) (take (stripeOf shape) after)
-
-unfoldable pub Enough : Type 0
-Enough = (image s after bench benched : List ℕ) (r : Judgement) → 49056 ≤ length s → 32704 ≤ length bench → JudgesImage image s after bench benched r
-    → (r .outcome ≢ outcome.Refused StripeLength) × (r .outcome ≢ outcome.Refused BenchLength)

@@ -1,10 +1,5 @@
-// What is told of a shelf image: it is read, restored and judged, and the answer written as lines of text.
-mod judging;
+// What is told of a shelf image: it is judged, and the answer written as lines of text.
 mod telling;
 mod writing;
 
-pub use judging::Judgement;
-pub use judging::Outcome;
-pub use judging::judge_image;
 pub use telling::report;
-pub use writing::Shape;

@@ -1,13 +1,13 @@
 // The report: what is judged of an image, as text.
-use crate::judging::Outcome;
-use crate::judging::judge_image;
-use crate::writing::Shape;
 use crate::writing::put_answer;
 use crate::writing::put_columns;
 use crate::writing::put_done;
 use crate::writing::put_shape;
 use evenodd::Map;
 use evenodd::Refusal;
+use judging::Outcome;
+use judging::Shape;
+use judging::judge_image;
 ghost use Prim.Native.Nat.{_≤_, _<_};
 ghost use lib.ListN.{length};
 ghost use Rattle.text.specs.Text.{Wrote};

@@ -1,19 +1,13 @@
 // The lines of a report, each written at a place of a lent buffer; the answer is the place after it.
 use evenodd::Map;
+use judging::Shape;
 ghost use Prim.Native.Nat.{_+_, _*_, _≤_, _<_};
 ghost use lib.ListN.{length};
 ghost use Rattle.parity.specs.Shape.{columnLength};
 ghost use Rattle.parity.specs.Presence.{present};
 ghost use Rattle.text.specs.Text.{Wrote};
-ghost use Rattle.report.specs.Shown.{shown, Held};
+ghost use Rattle.judging.specs.Shown.{shown, Held};
 ghost use Rattle.report.specs.Lines.{field, shapeLine, answerLine, doneLine, stateWord, columnLine, columnLines};
-
-// The three numbers of a shape.
-pub struct Shape {
-    pub m: usize,
-    pub k: usize,
-    pub b: usize,
-}
 
 // Writes a number, and the byte that follows it.
 fn put_field(out: &mut [u8], at: usize, n: usize, mark: u8) -> usize

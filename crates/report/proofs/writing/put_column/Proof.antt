@@ -2,7 +2,7 @@
 use mathlib.Core.Path.{ap₂}
 use Rattle.inputs.proofs.Shape.{places-most}
 use Rattle.report.specs.Lines.{columnLine}
-use Rattle.report.proofs.Shown.{held-shown}
+use Rattle.judging.proofs.Shown.{held-shown}
 use Rattle.text.proofs.Writing.{wrote-same}
 use borrow.Author.Needs.{needs}
 use native.Mathlib.Omega.{arith}

@@ -6,9 +6,9 @@ use denote.Ref.{now}
 use Rattle.parity.specs.Shape.{columnLength}
 use Rattle.cells.proofs.Parts.{parts-end}
 use Rattle.text.specs.Text.{Wrote}
-use Rattle.report.specs.Shown.{shown}
+use Rattle.judging.specs.Shown.{shown}
 use Rattle.report.specs.Lines.{columnLines}
-use Rattle.report.proofs.Shown.{lines-none, lines-next}
+use Rattle.report.proofs.Lines.{lines-none, lines-next}
 use Rattle.text.proofs.Writing.{wrote-none, wrote-then, wrote-same}
 use borrow.Author.Needs.{needs}
 use native.Mathlib.Omega.{arith}

@@ -1,11 +1,11 @@
--- `report::judging::judge_parts` meets its contract: the stripe is read, and restore either fills the bench, so that every column can be looked at, or refuses with
+-- `judging::judge_parts` meets its contract: the stripe is read, and restore either fills the bench, so that every column can be looked at, or refuses with
 -- 5, since nothing else is left.
 use mathlib.Core.Path.{sym, _∙_}
 use mathlib.Core.Bool.{true≢false}
-use Rattle.report.proofs.Judged.{read-fills, parts-held, parts-blank, parts-complete, parts-contradicted}
+use Rattle.judging.proofs.Judged.{read-fills, parts-held, parts-blank, parts-complete, parts-contradicted}
 use borrow.Author.Needs.{needs}
-use Rattle.report.proofs.judging.judge_parts.Statement.{statement}
-use Rattle.report.proofs.judging.judge_parts.Tie as tie
+use Rattle.judging.proofs.judge_parts.Statement.{statement}
+use Rattle.judging.proofs.judge_parts.Tie as tie
 
 read-requires : tie.Need-read-requires
 read-requires c κs = search needs

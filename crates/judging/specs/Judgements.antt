@@ -27,10 +27,10 @@ use Rattle.evenodd.specs.Restores.{RestoredFrom}
 use Rattle.image.specs.declared.answers.Read.the-variants as read
 use Rattle.image.specs.declared.answers.Contents.{Contents}
 use Rattle.image.specs.Reads.{contentsRules, ContentsOf, Filled}
-use Rattle.report.specs.declared.writing.Shape.{Shape}
-use Rattle.report.specs.declared.judging.Outcome.{Outcome}
-use Rattle.report.specs.declared.judging.Outcome.the-variants as outcome
-use Rattle.report.specs.declared.judging.Judgement.{Judgement}
+use Rattle.judging.specs.declared.Shape.{Shape}
+use Rattle.judging.specs.declared.Outcome.{Outcome}
+use Rattle.judging.specs.declared.Outcome.the-variants as outcome
+use Rattle.judging.specs.declared.Judgement.{Judgement}
 
 abbrev pub longest : ℕ
 longest = 16384

@@ -1,17 +1,13 @@
 -- Laws of the columns that are shown.
 --   held-shown     what show hands out where it refuses none: the column that is meant, of the length of a column
---   lines-none, lines-next   no column's line, and one more
-use mathlib.Core.Path.{_≡_, refl, ap, _∙_}
-use mathlib.Core.Bool.{Bool}
-use mathlib.Core.List.{List, [], _++_}
+use mathlib.Core.Path.{_≡_, ap, _∙_}
+use mathlib.Core.List.{List}
 use Prim.Native.Nat.{ℕ, _+_, _*_, _≤_, _<_}
-use native.Mathlib.Numerals.{add-one}
 use native.Mathlib.Omega.{arith}
 use denote.Ref.{RefT, now}
 use lib.ListN.{length, take, drop, length-drop}
 use lib.Seq.{length-take-le}
 use Rattle.parity.specs.Shape.{columnLength}
-use Rattle.parity.specs.Presence.{present}
 use Rattle.maps.specs.declared.Map.{Map}
 use Rattle.evenodd.specs.declared.shows.Place.{Place}
 use Rattle.evenodd.specs.declared.shows.Place.the-variants.{InStripe, InBench, Refused}
@@ -20,8 +16,7 @@ use Rattle.inputs.specs.Rules.{showRules}
 use Rattle.evenodd.specs.Shows.{half, Places, PartAt, Shows}
 use Rattle.refusals.proofs.Rules.{passes-not, gives-one}
 use Rattle.evenodd.proofs.Shown.{passes, in-stripe, in-bench, stripe-fits, bench-fits}
-use Rattle.report.specs.Shown.{columnBytes, shown, Held}
-use Rattle.report.specs.Lines.{columnLine, columnLines}
+use Rattle.judging.specs.Shown.{columnBytes, shown, Held}
 
 -- a part of a buffer that begins at column u
 part-column : (m b u : ℕ) (x r : List ℕ) (start n : ℕ) → r ≡ take n (drop start x) → start ≡ u * columnLength m b → n ≡ columnLength m b → start + n ≤ length x
@@ -51,11 +46,3 @@ module _ {m k b : ℕ} {map : Map} (s bench : RefT (List ℕ)) (held : Held m k 
 
   pub held-shown : Shows m k b map s bench t r → (now r ≡ shown m b (map .places) (now s) (now bench) t) × (length (now r) ≡ columnLength m b)
   held-shown h = placed (h .answer) (h .places) (h .part)
-
-pub lines-none : (map : List Bool) (f : ℕ → List ℕ) → [] ≡ columnLines 0 map f
-unfolding columnLines
-lines-none map f = refl
-
-pub lines-next : (n : ℕ) (map : List Bool) (f : ℕ → List ℕ) → columnLines n map f ++ columnLine n (present map n) (f n) ≡ columnLines (n + 1) map f
-unfolding columnLines
-lines-next n map f = rw add-one

@@ -1,17 +1,17 @@
--- `report::judging::is_blank` meets its contract. The invariant: the columns before t are zeros.
+-- `judging::is_blank` meets its contract. The invariant: the columns before t are zeros.
 use mathlib.Core.Path.{_≡_, refl, sym, subst, _∙_}
 use mathlib.Core.Bool.{true≢false}
 use Prim.Native.Nat.{ℕ, _+_, _-_, _≤_, _<_}
 use Rattle.cells.specs.Runs.{Zeros}
 use Rattle.inputs.proofs.Shape.{places-most}
-use Rattle.report.specs.Shown.{shown}
-use Rattle.report.proofs.Shown.{held-shown}
+use Rattle.judging.specs.Shown.{shown}
+use Rattle.judging.proofs.Shown.{held-shown}
 use borrow.Author.Count.{below-more}
 use borrow.Author.Tests.{not-true, not-false}
 use borrow.Author.Needs.{needs}
 use native.Mathlib.Omega.{arith}
-use Rattle.report.proofs.judging.is_blank.Statement.{statement}
-use Rattle.report.proofs.judging.is_blank.Tie as tie
+use Rattle.judging.proofs.is_blank.Statement.{statement}
+use Rattle.judging.proofs.is_blank.Tie as tie
 
 abbrev Inv-loop : tie.InvT-loop
 Inv-loop shape map stripe bench t₀ t-end t =

@@ -1,10 +1,10 @@
--- `report::judging::judge_image` meets its contract: each way out is one of its three cases.
+-- `judging::judge_image` meets its contract: each way out is one of its three cases.
 use mathlib.Core.Path.{refl}
-use Rattle.report.proofs.Judged.{formed-said, image-long, image-bad, image-formed}
+use Rattle.judging.proofs.Judged.{formed-said, image-long, image-bad, image-formed}
 use borrow.Author.Needs.{needs}
 use native.Mathlib.Omega.{arith}
-use Rattle.report.proofs.judging.judge_image.Statement.{statement}
-use Rattle.report.proofs.judging.judge_image.Tie as tie
+use Rattle.judging.proofs.judge_image.Statement.{statement}
+use Rattle.judging.proofs.judge_image.Tie as tie
 
 new-requires : tie.Need-new-requires
 new-requires c κs = search needs

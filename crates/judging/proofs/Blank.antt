@@ -22,8 +22,8 @@ use Rattle.cells.specs.Runs.{Zeros}
 use Rattle.cells.proofs.Tells.{zeros-at}
 use Rattle.evenodd.specs.Shows.{half}
 use Rattle.evenodd.specs.EndToEnd.{Together}
-use Rattle.report.specs.Shown.{columnBytes, shown, ShownZeros}
-use Rattle.report.specs.Theorems.{PresentZeros}
+use Rattle.judging.specs.Shown.{columnBytes, shown, ShownZeros}
+use Rattle.judging.specs.Theorems.{PresentZeros}
 
 module _ (m b : ℕ) (s : List ℕ) (t : ℕ) where
   zeros-column : Zeros (columnBytes m b s t) → (l i : ℕ) → l < b → i < m - 1 → byte m b s l i t ≡ 0

@@ -43,13 +43,13 @@ use Rattle.image.specs.Reads.{mIn, kIn, bIn, contentsRules, readRules, verdictO
 use Rattle.image.specs.Determined.{ImageOne, ContentsOne}
 use Rattle.image.proofs.Filling.{Good, good-answer}
 use Rattle.image.proofs.Determined.{image-one, contents-one}
-use Rattle.report.specs.declared.writing.Shape.{Shape}
-use Rattle.report.specs.declared.judging.Outcome.{Outcome}
-use Rattle.report.specs.declared.judging.Outcome.the-variants as outcome
-use Rattle.report.specs.declared.judging.Judgement.{Judgement}
-use Rattle.report.specs.Shown.{ShownZeros, Held}
-use Rattle.report.specs.Judgements.{Formed, partRules, Complete, Benches, JudgesParts, stripeOf, benchOf, InParts, Leaves, JudgesFormed, JudgesImage}
-use Rattle.report.proofs.Blank.{shown-blank, blank-shown}
+use Rattle.judging.specs.declared.Shape.{Shape}
+use Rattle.judging.specs.declared.Outcome.{Outcome}
+use Rattle.judging.specs.declared.Outcome.the-variants as outcome
+use Rattle.judging.specs.declared.Judgement.{Judgement}
+use Rattle.judging.specs.Shown.{ShownZeros, Held}
+use Rattle.judging.specs.Judgements.{Formed, partRules, Complete, Benches, JudgesParts, stripeOf, benchOf, InParts, Leaves, JudgesFormed, JudgesImage}
+use Rattle.judging.proofs.Blank.{shown-blank, blank-shown}
 
 pub formed-good : {image : List ℕ} {shape : Shape} {map : Map} → Formed image shape map → Good image (shape .m) (shape .k) (shape .b) (map .places)
 formed-good {image} {shape} {map} f = good-answer image map (f .told) (f .says)

@@ -1,5 +1,4 @@
-// Judging an image: reading it, restoring it, and saying what came of it.
-use crate::writing::Shape;
+// What is judged of a shelf image: it is read and restored, and what came of it is said.
 use evenodd::Map;
 use evenodd::Refusal;
 use evenodd::Restored;
@@ -11,8 +10,15 @@ ghost use Prim.Native.Nat.{_≤_};
 ghost use lib.ListN.{length};
 ghost use Rattle.parity.specs.Shape.{stripeLength, benchLength};
 ghost use Rattle.parity.specs.Presence.{absences};
-ghost use Rattle.report.specs.Shown.{ShownZeros, Held};
-ghost use Rattle.report.specs.Judgements.{JudgesParts, JudgesFormed, JudgesImage, Formed};
+ghost use Rattle.judging.specs.Shown.{ShownZeros, Held};
+ghost use Rattle.judging.specs.Judgements.{JudgesParts, JudgesFormed, JudgesImage, Formed};
+
+// The three numbers of a shape.
+pub struct Shape {
+    pub m: usize,
+    pub k: usize,
+    pub b: usize,
+}
 
 // What came of an image: every column is there, in the stripe or in the bench, and some byte is not zero; every column is there, and every byte is zero; three
 // or more are absent; those that are present contradict each other; or the image is refused without a shape.

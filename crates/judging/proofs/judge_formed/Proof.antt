@@ -1,14 +1,14 @@
--- `report::judging::judge_formed` meets its contract: each way out is one of its rules, and the last is the judgement in parts of the right lengths.
+-- `judging::judge_formed` meets its contract: each way out is one of its rules, and the last is the judgement in parts of the right lengths.
 use mathlib.Core.Path.{refl}
 use Prim.Native.Nat.{_+_, _*_, _-_}
 use denote.Ref.{now}
 use Rattle.parity.specs.Shape.{columnLength, stripeLength, benchLength}
 use Rattle.inputs.proofs.Shape.{column-most, places-most, parts-most}
-use Rattle.report.proofs.Judged.{formed-good, formed-absent, part-size, formed-ambiguous, formed-stripe, formed-bench, formed-lent}
+use Rattle.judging.proofs.Judged.{formed-good, formed-absent, part-size, formed-ambiguous, formed-stripe, formed-bench, formed-lent}
 use borrow.Author.Needs.{needs}
 use native.Mathlib.Omega.{arith}
-use Rattle.report.proofs.judging.judge_formed.Statement.{statement}
-use Rattle.report.proofs.judging.judge_formed.Tie as tie
+use Rattle.judging.proofs.judge_formed.Statement.{statement}
+use Rattle.judging.proofs.judge_formed.Tie as tie
 
 add-columns : tie.Need-add-columns
 add-columns c = omega (arith, places-most (formed-good (c .before .before .before .before .pre) .shape))

@@ -1,0 +1,4 @@
+-- What is judged of a shelf image.
+pub mod Shown
+pub mod Judgements
+pub mod Theorems
