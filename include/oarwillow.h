@@ -27,7 +27,7 @@
 #include <stddef.h>
 #include <stdint.h>
 
-#define OARWILLOW_VERSION "0.8.0"
+#define OARWILLOW_VERSION "0.9.0"
 
 /* Why a call is refused. Other numbers are never given. */
 enum oarwillow_refusal {
@@ -83,7 +83,7 @@ enum oarwillow_found {
     OARWILLOW_FOUND_INTACT = 1,  /* the stripe is valid, and some byte is not zero */
     OARWILLOW_FOUND_BLANK = 2,   /* every byte is zero: perhaps no job ever wrote it. It obeys every parity rule */
     OARWILLOW_FOUND_BROKEN = 3,  /* oarwillow_check alone: the stripe is not valid */
-    OARWILLOW_FOUND_COLUMN = 4   /* oarwillow_locate alone: one column is wrong */
+    OARWILLOW_FOUND_COLUMN = 4   /* oarwillow_locate alone: a valid stripe differs in exactly one column */
 };
 
 /* Counts the rows whose H equation breaks and the numbers whose D equation breaks; a cell counts once. Writes no byte of the stripe.
@@ -103,13 +103,14 @@ uint8_t oarwillow_restore(size_t m, size_t k, size_t b, const uint8_t places[129
 /* Says which column is wrong, of a stripe with every column present; writes no byte of the stripe. `found` is one of `enum
  * oarwillow_found`: OARWILLOW_FOUND_INTACT exactly when the stripe is valid and not blank, OARWILLOW_FOUND_BLANK exactly when every byte
  * is zero, both with column 129; OARWILLOW_FOUND_COLUMN exactly when some valid stripe differs from it in exactly one column, and
- * `column` is its number. On a refusal: OARWILLOW_FOUND_REFUSED and 129. Two wrong columns can look like one other: look before you
- * rewrite. Refusals: 1, 12, 13, 2, 6. */
+ * `column` is its number. On a refusal: OARWILLOW_FOUND_REFUSED and 129. Where two columns are wrong it gives 6, or names a third, which
+ * is right, and never one of the two: look before you rewrite. Refusals: 1, 12, 13, 2, 6. */
 uint8_t oarwillow_locate(size_t m, size_t k, size_t b, const uint8_t *stripe, size_t stripe_len, uint8_t *found, size_t *column);
 
 /* Puts into the column that is named the one content that makes the stripe valid. It follows from the other columns, which stay; what
  * stood in the column is not read, and never alters the answer. 5 is decided before the first byte is written: no valid stripe agrees
- * with the other columns. Refusals: 1, 12, 13, 2, 7, 5. */
+ * with the other columns. Where two other columns are wrong and it passes, the damage is sealed: the stripe is valid, and wrong in
+ * three. Where two may be, keep the column's bytes first, or mark both absent and restore. Refusals: 1, 12, 13, 2, 7, 5. */
 uint8_t oarwillow_rewrite(size_t m, size_t k, size_t b, uint8_t *stripe, size_t stripe_len, size_t column);
 
 /* Says where a column lies: `from_bench` 0 for the stripe and 1 for the bench, and the part's start and length there. It reads no byte

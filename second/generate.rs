@@ -22,9 +22,9 @@ impl Random {
     pub fn one_of<T: Copy>(&mut self, list: &[T]) -> T { list[self.below(list.len())] }
     fn byte(&mut self) -> u8 { self.next() as u8 }
     fn nonzero(&mut self) -> u8 { 1 + self.below(255) as u8 }
-    fn bytes(&mut self, count: usize) -> Vec<u8> { (0..count).map(|_| self.byte()).collect() }
+    pub fn bytes(&mut self, count: usize) -> Vec<u8> { (0..count).map(|_| self.byte()).collect() }
     /// Two different numbers below the limit.
-    fn two(&mut self, limit: usize) -> [usize; 2] {
+    pub fn two(&mut self, limit: usize) -> [usize; 2] {
         let first = self.below(limit);
         [first, (first + 1 + self.below(limit - 1)) % limit]
     }
@@ -90,7 +90,7 @@ fn alone_and_together(order: &[u8]) -> Vec<Vec<u8>> {
     order.iter().map(|&number| vec![number]).chain(together(order)).collect()
 }
 
-/// Kinds of shapes at which blank stripes are made.
+/// Kinds of shapes at which blank stripes are made, and stripes with two wrong columns.
 pub const EXTENTS: [&str; 3] = ["small", "long cells", "many columns"];
 
 pub fn extent(shape: Shape) -> &'static str {
@@ -179,6 +179,11 @@ enum Recipe {
     LongCells(usize, bool),
     /// A check or a locate of a stripe that is all zero, at a shape of this kind.
     Blank(fn(Shape, Vec<u8>) -> Request, &'static str),
+    /// A check of a valid stripe. Then two columns of it are changed, so that a locate names a third, or at random.
+    Sound(bool),
+    /// A request about the stripe that the last `Sound` left: check, locate, rewrite or restore, and which columns it is to
+    /// rewrite or lacks.
+    TwoWrong(&'static str, &'static str),
     Mark(bool),
     Gaps,
     Lengths,
@@ -245,6 +250,21 @@ fn faint_recipes() -> Vec<Recipe> {
     list
 }
 
+/// They stand twice among the others: about 4 of 100 requests.
+fn two_wrong_recipes() -> Vec<Recipe> {
+    let of_both = [
+        ("check", "none"), ("locate", "none"), ("rewrite", "one"), ("restore", "one"), ("restore", "both"),
+        ("restore", "other pair"),
+    ];
+    let of_named = [("rewrite", "third"), ("rewrite", "other"), ("restore", "third")];
+    let asked = |list: &[(&'static str, &'static str)]| -> Vec<Recipe> {
+        list.iter().map(|&(word, columns)| Recipe::TwoWrong(word, columns)).collect()
+    };
+    let named = [vec![Recipe::Sound(true)], asked(&of_both), asked(&of_named)];
+    let at_random = [vec![Recipe::Sound(false)], asked(&of_both)];
+    named.into_iter().chain(at_random).flatten().collect()
+}
+
 /// About 4 of 100 requests.
 fn gap_recipes() -> Vec<Recipe> { (0..28).map(|_| Recipe::Gaps).collect() }
 
@@ -269,6 +289,15 @@ fn image_recipes() -> Vec<Recipe> {
     list
 }
 
+/// Puts into two columns what the others leave for them, so that the stripe is valid.
+pub fn fit(shape: Shape, stripe: &mut [u8], columns: [usize; 2]) {
+    let mut bench = vec![0; shape.bench_length()];
+    let done = restore(shape, &Map::all_but(shape.columns(), &columns), stripe, &mut bench);
+    for (half, column) in [done.first, done.second].into_iter().enumerate() {
+        stripe[shape.column(column)].copy_from_slice(&bench[shape.column(half)]);
+    }
+}
+
 fn check_and_locate(shape: Shape, stripe: Vec<u8>) -> [Request; 2] {
     [Request::Check(shape, stripe.clone()), Request::Locate(shape, stripe)]
 }
@@ -281,27 +310,43 @@ pub struct Maker {
     bad_turns: [usize; 3],
     gap_turn: usize,
     length_turn: usize,
+    sound_turns: [usize; 2],
+    two_wrong: Option<TwoWrong>,
 }
+
+/// A valid stripe that was changed in two columns, and the third column that a locate names, where it was made so.
+#[derive(Clone)]
+struct TwoWrong { shape: Shape, stripe: Vec<u8>, columns: [usize; 2], third: Option<usize> }
 
 struct Scene { shape: Shape, map: Map, stripe: Vec<u8>, bench: Vec<u8> }
 
 impl Maker {
     pub fn new(seed: u64) -> Maker {
         let primes = (3..=127).filter(|&m| is_odd_prime(m)).collect();
-        Maker { random: Random(seed), primes, size_turn: 0, prime_turn: 0, bad_turns: [0; 3], gap_turn: 0, length_turn: 0 }
+        Maker {
+            random: Random(seed),
+            primes,
+            size_turn: 0,
+            prime_turn: 0,
+            bad_turns: [0; 3],
+            gap_turn: 0,
+            length_turn: 0,
+            sound_turns: [0; 2],
+            two_wrong: None,
+        }
     }
 
     pub fn cases(mut self, count: usize) -> impl Iterator<Item = Case> {
-        let recipes =
-            [code_recipes(), gap_recipes(), length_recipes(), code_recipes(), faint_recipes(), image_recipes()];
-        let recipes: Vec<Recipe> = recipes.into_iter().flatten().collect();
+        let first = [code_recipes(), two_wrong_recipes(), gap_recipes(), length_recipes()];
+        let second = [code_recipes(), two_wrong_recipes(), faint_recipes(), image_recipes()];
+        let recipes: Vec<Recipe> = first.into_iter().chain(second).flatten().collect();
         (0..count).map(move |n| self.make(&recipes[n % recipes.len()]))
     }
 
     /// At each of several small shapes, of a valid stripe and with each column wrong: a check, a locate, a rewrite of
     /// every column, and every set of at most two absent columns; and checks and locates of the stripe that is all zero, and
-    /// of it with one byte set. Then a few requests at large shapes, the gaps of a few maps for every k from 0 to 130, and
-    /// lengths for every m from 0 to 140.
+    /// of it with one byte set; and requests about valid stripes with every two columns wrong. Then a few requests at large
+    /// shapes, the gaps of a few maps for every k from 0 to 130, and lengths for every m from 0 to 140.
     pub fn every_pattern(mut self) -> Vec<Request> {
         let mut requests = Vec::new();
         for (m, k, b) in SMALL {
@@ -328,6 +373,7 @@ impl Maker {
                 }
             }
             requests.extend(self.one_byte(shape));
+            requests.extend(self.every_two_wrong(shape));
         }
         for (m, k, b) in LARGE {
             requests.extend(self.large(Shape { m, k, b }));
@@ -366,6 +412,94 @@ impl Maker {
             }
         }
         requests
+    }
+
+    /// A check of a valid stripe, and with every two of its columns changed in two ways: so that a locate names a third, a
+    /// check, the locate and a rewrite of the third; and so that it gives 6, a check and the locate.
+    fn every_two_wrong(&mut self, shape: Shape) -> Vec<Request> {
+        let columns = shape.columns();
+        let valid = self.valid_stripe(shape);
+        let mut requests = vec![Request::Check(shape, valid.clone())];
+        for (x, y) in (0..columns).flat_map(|x| (x + 1..columns).map(move |y| (x, y))) {
+            let others: Vec<usize> = (0..columns).filter(|&column| column != x && column != y).collect();
+            let third = self.random.one_of(&others);
+            let named = self.accuse(shape, &valid, [x, y], third);
+            requests.extend(check_and_locate(shape, named.clone()));
+            requests.push(Request::Rewrite(shape, named, third));
+            // Most changes are so, and some are at every shape: one bit in one column and another bit in the other.
+            loop {
+                let mut stripe = valid.clone();
+                [x, y].into_iter().for_each(|column| self.hurt(shape, &mut stripe, column));
+                if locate(shape, &stripe).number == NONE_NEAR {
+                    requests.extend(check_and_locate(shape, stripe));
+                    break;
+                }
+            }
+        }
+        requests
+    }
+
+    /// A valid stripe with two columns changed so that a locate names a third: they come from another valid stripe, which
+    /// differs in these three. One of them is changed for it, and the two others are fitted.
+    fn accuse(&mut self, shape: Shape, valid: &[u8], [x, y]: [usize; 2], third: usize) -> Vec<u8> {
+        let mut stripe = valid.to_vec();
+        let [changed, fitted @ ..] = self.random.one_of(&[[x, y, third], [y, third, x], [third, x, y]]);
+        self.hurt(shape, &mut stripe, changed);
+        fit(shape, &mut stripe, fitted);
+        stripe[shape.column(third)].copy_from_slice(&valid[shape.column(third)]);
+        stripe
+    }
+
+    /// A valid stripe, and it with two columns changed, so that a third one is named or at random. Kinds of shapes come in
+    /// turn, and beside them kinds of the third column, which after nine turns were each met with each, or of the two, which
+    /// were so after twelve.
+    fn sound(&mut self, named: bool) -> (Vec<u8>, TwoWrong) {
+        let turn = self.sound_turns[named as usize];
+        self.sound_turns[named as usize] += 1;
+        let kind = EXTENTS[(if named { turn + turn / 3 } else { turn }) % 3];
+        // With two data columns both of them can be changed, and there is one more besides the two and the third.
+        let shape = self.shape_where(|s| extent(s) == kind && s.k > 1);
+        let valid = self.valid_stripe(shape);
+        if named {
+            let third = self.absent(shape, KINDS[turn % 3])[0];
+            let columns = self.random.two(shape.k + 1).map(|column| column + (column >= third) as usize);
+            let stripe = self.accuse(shape, &valid, columns, third);
+            return (valid, TwoWrong { shape, stripe, columns, third: Some(third) });
+        }
+        let two = self.absent(shape, PATTERNS[4 + turn % 4]);
+        let mut stripe = valid.clone();
+        two.iter().for_each(|&column| self.hurt(shape, &mut stripe, column));
+        (valid, TwoWrong { shape, stripe, columns: [two[0], two[1]], third: None })
+    }
+
+    /// A request about a stripe with two wrong columns.
+    fn about_two_wrong(&mut self, word: &str, columns: &str) -> Case {
+        let TwoWrong { shape, stripe, columns: two, third } = self.two_wrong.clone().expect("a `Sound` comes first");
+        let others: Vec<usize> = (0..shape.columns()).filter(|c| !two.contains(c) && third != Some(*c)).collect();
+        let told = match columns {
+            "one" => vec![self.random.one_of(&two)],
+            "both" => two.to_vec(),
+            "third" => vec![third.expect("a third is named")],
+            "other" => vec![self.random.one_of(&others)],
+            "other pair" => loop {
+                let pair = self.random.two(shape.columns());
+                if !pair.iter().all(|column| two.contains(column)) { break pair.to_vec(); }
+            },
+            _ => vec![],
+        };
+        let bench = self.random.bytes(shape.bench_length());
+        let expected = match (word, columns) {
+            ("locate", _) if third.is_none() => None,
+            (_, "one" | "other") => Some(NONE_FITS),
+            _ => Some(FINE),
+        };
+        let request = match word {
+            "check" => Request::Check(shape, stripe),
+            "locate" => Request::Locate(shape, stripe),
+            "rewrite" => Request::Rewrite(shape, stripe, told[0]),
+            _ => Request::Restore(shape, Map::all_but(shape.columns(), &told), stripe, bench),
+        };
+        Case { request, expected }
     }
 
     /// A valid stripe restored with one column absent, and with one data column rewritten that holds anything; with one
@@ -575,11 +709,7 @@ impl Maker {
         let column = self.random.one_of(&others);
         let mut stripe = vec![0; shape.stripe_length()];
         self.hurt(shape, &mut stripe, column);
-        let mut bench = vec![0; shape.bench_length()];
-        let done = restore(shape, &Map::all_but(shape.columns(), &fitted), &stripe, &mut bench);
-        for (half, column) in [done.first, done.second].into_iter().enumerate() {
-            stripe[shape.column(column)].copy_from_slice(&bench[shape.column(half)]);
-        }
+        fit(shape, &mut stripe, fitted);
         stripe
     }
 
@@ -883,6 +1013,13 @@ impl Maker {
                 let shape = self.shape_where(|s| extent(s) == *kind);
                 Case { request: operation(shape, vec![0; shape.stripe_length()]), expected: Some(FINE) }
             }
+            Recipe::Sound(named) => {
+                let (valid, two_wrong) = self.sound(*named);
+                let request = Request::Check(two_wrong.shape, valid);
+                self.two_wrong = Some(two_wrong);
+                Case { request, expected: Some(FINE) }
+            }
+            Recipe::TwoWrong(word, columns) => self.about_two_wrong(word, columns),
             Recipe::Mark(good) => {
                 let mut states = [false; PLACES];
                 self.fill(&mut states);

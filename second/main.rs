@@ -8,6 +8,7 @@ mod numbers;
 mod requests;
 mod selftest;
 mod tally;
+mod two_wrong;
 
 use requests::Request;
 use std::io::{self, BufRead, BufWriter, Read, Write};
@@ -18,6 +19,7 @@ const USAGE: &str = "usage: model shelf < image
        model asked
        model expected
        model lies
+       model two-wrong
        model selftest
        model answer < requests
        model tally < requests
@@ -75,6 +77,7 @@ fn run(arguments: &[&str], out: &mut impl Write) -> io::Result<bool> {
             }
             Ok(true)
         }
+        ["two-wrong"] => two_wrong::run(out),
         ["selftest"] => selftest::run(out),
         ["answer"] => answer(out),
         ["tally"] => tally::run(io::stdin().lock(), out),

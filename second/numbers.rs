@@ -1,5 +1,5 @@
-//! The numbers of the document, as requests with the answers the document gives, and more about stripes near to blank, wrong
-//! shapes, lengths and gaps.
+//! The numbers of the document, as requests with the answers the document gives, and more about stripes near to blank, stripes
+//! with two wrong columns, wrong shapes, lengths and gaps.
 
 use crate::code::*;
 use crate::image::shelf;
@@ -17,6 +17,11 @@ const MAX: usize = usize::MAX;
 pub const C1: &str = "010204081020152a391e";
 const C1_05: &str = "010205081020152a391e";
 const C1_09: &str = "010204091020152a391e";
+/// C1 with bit 0 of a(0,0) and of a(1,1) flipped, and this as it is when column 2 is rewritten.
+pub const TWO_WRONG: &str = "000204091020152a391e";
+const TWO_WRONG_SEALED: &str = "000204091121152a391e";
+/// C1 with bit 0 of a(0,0) and bit 1 of a(0,1) flipped.
+pub const TWO_WRONG_6: &str = "000206081020152a391e";
 const C3: &str = "00000000000000010100010100000001010101000001000101010001";
 const C9: &str = "01020408150a191e";
 pub const C5_IMAGE: &str = "0300030001000000\
@@ -78,6 +83,45 @@ fn header_only(name: &'static str, image: &str, number: u8) -> [Number; 2] {
 
 fn zeros(count: usize) -> String { "00".repeat(count) }
 
+/// C1 with one bit wrong in column 0 and one in column 1.
+fn two_wrong() -> Vec<Number> {
+    let s = |t: &str| t.to_string();
+    let restored = |name: &'static str, stripe: &str, absent: &[usize], expected: &str| {
+        let map: Vec<usize> = (0..5).filter(|column| !absent.contains(column)).collect();
+        ask(name, format!("restore 3 3 1 {} {stripe} a1a2a3a4", present(&map)), s(expected))
+    };
+    vec![
+        // a(0,0) is in row 0 and in D's equation 0; a(1,1) is in row 1 and in S, and so in both equations of D. Broken are
+        // both rows and D's equation 1: twice the same bit in D's equation 0 is none.
+        ask("two-wrong", format!("check 3 3 1 {TWO_WRONG}"), s("0 2 1 3")),
+        // Both cells of column 2 with this bit break the same: a(0,2) is in S, and a(1,2) in D's equation 0.
+        ask("two-wrong", format!("locate 3 3 1 {TWO_WRONG}"), s("0 4 2")),
+        ask("two-wrong", format!("rewrite 3 3 1 {TWO_WRONG} 2"), format!("0 {TWO_WRONG_SEALED}")),
+        // S=18 as in C1. H: 00+04+11=15, 02+09+21=2a. D: 18+00+21=39, 18+02+04=1e.
+        ask("two-wrong-sealed", format!("check 3 3 1 {TWO_WRONG_SEALED}"), s("0 0 0 1")),
+        ask("two-wrong-sealed", format!("locate 3 3 1 {TWO_WRONG_SEALED}"), s("0 1 129")),
+        // It is valid, and so the only valid stripe that agrees with its columns 2 to 4: the wrong bytes come back.
+        restored("two-wrong-sealed,0,1", TWO_WRONG_SEALED, &[0, 1], "0 2 0 1 00020409"),
+        // Only without column 2 do the others fit.
+        restored("two-wrong", TWO_WRONG, &[], "5 0 129 129 a1a2a3a4"),
+        restored("two-wrong,0", TWO_WRONG, &[0], "5 0 129 129 a1a2a3a4"),
+        restored("two-wrong,1", TWO_WRONG, &[1], "5 0 129 129 a1a2a3a4"),
+        restored("two-wrong,2", TWO_WRONG, &[2], "0 1 2 129 1121a3a4"),
+        restored("two-wrong,3", TWO_WRONG, &[3], "5 0 129 129 a1a2a3a4"),
+        restored("two-wrong,0,1", TWO_WRONG, &[0, 1], "0 2 0 1 01020408"),
+        // S=09+10=19. D gives a(0,0)=39+19+20=00 and a(1,0)=1e+19+04=03; then H is 00+04+10=14 and 03+09+20=2a.
+        restored("two-wrong,0,3", TWO_WRONG, &[0, 3], "0 2 0 3 0003142a"),
+        // Both cells are in row 0; a(0,0) is in D's equation 0, and a(0,1) in 1.
+        ask("two-wrong-6", format!("check 3 3 1 {TWO_WRONG_6}"), s("0 1 2 3")),
+        // In bit 0 column 0 is wrong, in bit 1 column 1: it is not one column for all bits.
+        ask("two-wrong-6", format!("locate 3 3 1 {TWO_WRONG_6}"), s("6 0 129")),
+        ask("two-wrong-6", format!("rewrite 3 3 1 {TWO_WRONG_6} 0"), format!("5 {TWO_WRONG_6}")),
+        restored("two-wrong-6,0", TWO_WRONG_6, &[0], "5 0 129 129 a1a2a3a4"),
+        restored("two-wrong-6,1", TWO_WRONG_6, &[1], "5 0 129 129 a1a2a3a4"),
+        restored("two-wrong-6,0,1", TWO_WRONG_6, &[0, 1], "0 2 0 1 01020408"),
+    ]
+}
+
 pub fn all() -> Vec<Number> {
     let bytes = |text| bytes_of(text).expect("the bytes are written rightly");
     let c1_shape = Shape { m: 3, k: 3, b: 1 };
@@ -126,6 +170,7 @@ pub fn all() -> Vec<Number> {
         printed("C11,0,4", C11_0_4_IMAGE, s(C11_0_4_TEXT)),
         printed("C11,0,1,2", C11_0_1_2_IMAGE, s("shape 3 3 1|answer 4|")),
     ];
+    list.extend(two_wrong());
     let shapes = [
         ("m=2", [2, 1, 1], 1),
         ("m=9", [9, 1, 1], 1),

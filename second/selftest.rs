@@ -1,7 +1,7 @@
 //! Tests: the document's numbers, exhaustive searches on small stripes, and the generator's own knowledge.
 
 use crate::code::*;
-use crate::generate::{BLANK_KINDS, IMAGE_KINDS, Maker, Random};
+use crate::generate::{BLANK_KINDS, IMAGE_KINDS, Maker, Random, fit};
 use crate::image;
 use crate::lies;
 use crate::numbers;
@@ -304,6 +304,8 @@ fn every_bit_stripe(test: &mut Test, m: usize, k: usize, mark: u8, step: usize) 
         let said = answer.rsplit(' ').next().expect("what was found");
         test.same(about, said == "1" || said == "2", distances.contains(&0));
         test.same(about, said == "2", stripe == &every[0]);
+        // Two columns away from some valid stripe are exactly those that are broken.
+        test.same(about, distances.iter().any(|distance| distance.count_ones() == 2), said == "3");
         let wanted = match found {
             1 => "1",
             2 => "2",
@@ -526,6 +528,229 @@ fn blank(test: &mut Test) {
             test.same(about, rewritten, format!("0 {}", hex(&zero)));
         }
     }
+}
+
+/// All that is said of a valid stripe of which exactly two columns were changed: what check, locate, every rewrite, and every
+/// restore with at most two columns absent give. Its answer is the third column, if a locate names one.
+fn two_changed(test: &mut Test, shape: Shape, valid: &[u8], wrong: &[u8], [x, y]: [usize; 2]) -> Option<usize> {
+    let (columns, length) = (shape.k + 2, shape.column_length());
+    let about = || format!("two wrong, {shape}, {x} and {y}, {:?}", &wrong[..wrong.len().min(60)]);
+    test.same(about, (is_valid(shape, valid), difference(shape, valid, wrong)), (true, 1 << x | 1 << y));
+    let done = check(shape, wrong);
+    test.same(about, (done.number, done.found), (0, 3));
+    test.same(about, (done.rows, done.diagonals), counts_by_the_rules(shape, wrong));
+    let done = locate(shape, wrong);
+    let third = (0..columns).find(|&u| u != x && u != y && done.column == u);
+    let wanted = third.map_or((6, 0, 129), |u| (0, 4, u));
+    test.same(about, (done.number, done.found, done.column), wanted);
+    // The stripe after a rewrite of the third column is valid, and has three wrong columns.
+    let mut sealed = wrong.to_vec();
+    if let Some(u) = third {
+        test.same(about, rewrite(shape, &mut sealed, u).number, 0);
+        test.same(about, counts_by_the_rules(shape, &sealed), (0, 0));
+        test.same(about, difference(shape, valid, &sealed), 1 << x | 1 << y | 1 << u);
+        let found = if all_zero(&sealed) { 2 } else { 1 };
+        let (checked, located) = (check(shape, &sealed), locate(shape, &sealed));
+        test.same(about, (checked.number, checked.rows, checked.diagonals, checked.found), (0, 0, 0, found));
+        test.same(about, (located.number, located.found, located.column), (0, found, 129));
+    }
+    test.same(about, mend(shape, wrong), (wanted.0, wanted.2, sealed.clone()));
+    // The last is none.
+    for absent in 0..=columns {
+        let about = || format!("without {absent}: {}", about());
+        let (mut bench, mut wanted_bench) = (vec![0x5a; 2 * length], vec![0x5a; 2 * length]);
+        let done = restore(shape, &Map::all_but(columns, &[absent]), wrong, &mut bench);
+        let mut wanted = (5, 0, 129, 129);
+        if third == Some(absent) {
+            wanted = (0, 1, absent, 129);
+            wanted_bench[..length].copy_from_slice(&sealed[shape.column(absent)]);
+        }
+        test.same(about, ((done.number, done.count, done.first, done.second), bench), (wanted, wanted_bench));
+        if absent < columns {
+            let mut after = wrong.to_vec();
+            let number = rewrite(shape, &mut after, absent).number;
+            let wanted = if third == Some(absent) { (0, &sealed[..]) } else { (5, wrong) };
+            test.same(about, (number, &after[..]), wanted);
+        }
+    }
+    for (first, second) in pairs(columns) {
+        let about = || format!("without {first} and {second}: {}", about());
+        let mut bench = vec![0x5a; 2 * length];
+        let done = restore(shape, &Map::all_but(columns, &[first, second]), wrong, &mut bench);
+        test.same(about, (done.number, done.count, done.first, done.second), (0, 2, first, second));
+        let mut whole = wrong.to_vec();
+        whole[shape.column(first)].copy_from_slice(&bench[..length]);
+        whole[shape.column(second)].copy_from_slice(&bench[length..]);
+        test.same(about, counts_by_the_rules(shape, &whole), (0, 0));
+        test.same(about, whole == valid, (first, second) == (x.min(y), x.max(y)));
+        if third == Some(first) || third == Some(second) { test.same(about, &whole, &sealed); }
+    }
+    third
+}
+
+/// Every two different numbers below the limit, the lower first.
+fn pairs(limit: usize) -> Vec<(usize, usize)> {
+    (0..limit).flat_map(|first| (first + 1..limit).map(move |second| (first, second))).collect()
+}
+
+/// Every change of every two columns in one bit of the cells, at b=1. Each third column is named after as many changes as one
+/// column has, and no other is. The answer is how many changes were tried.
+fn every_two_changed(test: &mut Test, shape: Shape, valid: &[u8], mark: u8) -> usize {
+    let (rows, columns) = (shape.m - 1, shape.k + 2);
+    let changes = (1 << rows) - 1;
+    let mut tried = 0;
+    for (x, y) in pairs(columns) {
+        let (mut named, mut six) = (vec![0; columns], 0);
+        for (first, second) in (1..=changes).flat_map(|first| (1..=changes).map(move |second| (first, second))) {
+            let mut wrong = valid.to_vec();
+            for row in 0..rows {
+                wrong[x * rows + row] ^= mark * (first >> row & 1) as u8;
+                wrong[y * rows + row] ^= mark * (second >> row & 1) as u8;
+            }
+            match two_changed(test, shape, valid, &wrong, [x, y]) {
+                Some(u) => named[u] += 1,
+                None => six += 1,
+            }
+            tried += 1;
+        }
+        let wanted = (0..columns).map(|u| if u == x || u == y { 0 } else { changes }).collect();
+        test.same(|| format!("{shape}, {x} and {y}: named"), (named, six), (wanted, changes * (changes - shape.k)));
+    }
+    tried
+}
+
+/// Another valid stripe that differs in exactly these three columns: one byte of the first is changed, and the others are
+/// fitted to it.
+fn three_apart(test: &mut Test, random: &mut Random, shape: Shape, valid: &[u8], [u, x, y]: [usize; 3]) -> Vec<u8> {
+    let mut other = valid.to_vec();
+    other[shape.column(u)][random.below(shape.column_length())] ^= 1 + random.below(255) as u8;
+    fit(shape, &mut other, [x, y]);
+    let about = || format!("{shape}: apart in {u}, {x} and {y}");
+    test.same(about, counts_by_the_rules(shape, &other), (0, 0));
+    test.same(about, difference(shape, valid, &other), 1 << x | 1 << y | 1 << u);
+    other
+}
+
+/// For every two columns and every third there is a change of the two after which a locate names the third.
+fn every_third(test: &mut Test, random: &mut Random, shape: Shape, valid: &[u8]) {
+    let columns = shape.k + 2;
+    let mut tried = 0;
+    for (x, y) in pairs(columns) {
+        for u in (0..columns).filter(|&u| u != x && u != y) {
+            let other = three_apart(test, random, shape, valid, [u, x, y]);
+            let mut wrong = valid.to_vec();
+            [x, y].into_iter().for_each(|c| wrong[shape.column(c)].copy_from_slice(&other[shape.column(c)]));
+            let done = locate(shape, &wrong);
+            let about = || format!("{shape}: {x} and {y} wrong, {u} named");
+            test.same(about, difference(shape, valid, &wrong), 1 << x | 1 << y);
+            test.same(about, (done.number, done.found, done.column), (0, 4, u));
+            tried += 1;
+        }
+    }
+    test.same(|| format!("{shape}: threes"), tried, columns * (columns - 1) * (columns - 2) / 2);
+}
+
+/// The examples of the numbers are the first. In order: two data columns, by the lower and then by the other; the bit that is
+/// flipped in the lower one, row 0 first and bit 0 first; the bit in the other.
+fn first_two_wrong(test: &mut Test) {
+    let shape = Shape { m: 3, k: 3, b: 1 };
+    let c1 = bytes_of(numbers::C1).expect("hex");
+    let mut all = Vec::new();
+    for (x, y) in pairs(3) {
+        for (first, second) in (0..16).flat_map(|first| (0..16).map(move |second| (first, second))) {
+            let mut stripe = c1.clone();
+            stripe[2 * x + first / 8] ^= 1 << (first % 8);
+            stripe[2 * y + second / 8] ^= 1 << (second % 8);
+            let done = locate(shape, &stripe);
+            all.push((x, y, hex(&stripe), done.number, done.column));
+        }
+    }
+    let third = all.iter().find(|(.., number, column)| *number == 0 && *column < 3);
+    test.same(|| "two-wrong".to_string(), third, Some(&(0, 1, numbers::TWO_WRONG.to_string(), 0, 2)));
+    let six = all.iter().find(|(x, y, _, number, _)| (*x, *y) == (0, 1) && *number == 6);
+    test.same(|| "two-wrong-6".to_string(), six, Some(&(0, 1, numbers::TWO_WRONG_6.to_string(), 6, 129)));
+    test.same(|| "two-wrong, all".to_string(), all.len(), 3 * 16 * 16);
+}
+
+/// The stripe with two columns changed, in one of four ways: in every byte, in one bit of each, in the same bit of the first
+/// byte of a cell of each, or so that a locate names a third.
+fn with_two_changed(
+    test: &mut Test, random: &mut Random, shape: Shape, valid: &[u8], two: [usize; 2], way: usize,
+) -> Vec<u8> {
+    let Shape { m, k, b } = shape;
+    if way == 3 {
+        let others: Vec<usize> = (0..k + 2).filter(|c| !two.contains(c)).collect();
+        let u = random.one_of(&others);
+        let mut wrong = three_apart(test, random, shape, valid, [two[0], two[1], u]);
+        wrong[shape.column(u)].copy_from_slice(&valid[shape.column(u)]);
+        return wrong;
+    }
+    let mut wrong = valid.to_vec();
+    let bit = 1 << random.below(8);
+    for column in two {
+        let part = &mut wrong[shape.column(column)];
+        match way {
+            0 => part.iter_mut().for_each(|x| *x ^= 1 + random.below(255) as u8),
+            1 => part[random.below((m - 1) * b)] ^= 1 << random.below(8),
+            _ => part[b * random.below(m - 1)] ^= bit,
+        }
+    }
+    wrong
+}
+
+/// Valid stripes changed in exactly two columns.
+fn two_wrong(test: &mut Test) {
+    let mut random = Random(31);
+    first_two_wrong(test);
+    // At m=3 every valid stripe of one bit to a cell, at m=5 each so manieth.
+    let mut tried = 0;
+    for (m, k, step) in [(3, 1, 1), (3, 2, 1), (3, 3, 1), (5, 1, 5), (5, 2, 51)] {
+        let shape = Shape { m, k, b: 1 };
+        for data in (0..1usize << (k * (m - 1))).step_by(step) {
+            let mark = 1 << (data % 8);
+            let mut valid = vec![0; shape.stripe_length()];
+            (0..k * (m - 1)).for_each(|cell| valid[cell] = mark * (data >> cell & 1) as u8);
+            encode(shape, &mut valid);
+            tried += every_two_changed(test, shape, &valid, mark);
+            every_third(test, &mut random, shape, &valid);
+        }
+    }
+    // A stripe that is zero but for three columns: with two of them zero as well the third is named, and rewritten it leaves
+    // a blank one.
+    let shape = Shape { m: 3, k: 3, b: 1 };
+    for (x, y) in pairs(5) {
+        for u in (0..5).filter(|&u| u != x && u != y) {
+            let valid = three_apart(test, &mut random, shape, &[0; 10], [u, x, y]);
+            let mut wrong = valid.clone();
+            [x, y].into_iter().for_each(|column| wrong[shape.column(column)].fill(0));
+            let named = two_changed(test, shape, &valid, &wrong, [x, y]);
+            let rewritten = Request::Rewrite(shape, wrong, u).answer();
+            test.same(|| format!("{u} alone"), (named, rewritten), (Some(u), format!("0 {}", hex(&[0; 10]))));
+        }
+    }
+    // Valid stripes, pairs of columns, and changes of both: m=3 with k=1, 2 and 3, and m=5 with k=1 and 2.
+    let wanted = 4 * 3 * 9 + 16 * 6 * 9 + 64 * 10 * 9 + 4 * 3 * 225 + 6 * 6 * 225;
+    test.same(|| "two wrong, tried".to_string(), tried, wanted);
+    let (mut named, mut six) = (0, 0);
+    let shapes = [
+        (3, 1, 2), (3, 2, 2), (3, 3, 2), (5, 2, 2), (5, 4, 2), (5, 5, 1), (7, 7, 3), (11, 9, 1), (3, 3, 130), (17, 15, 2),
+        (31, 3, 1), (127, 2, 1),
+    ];
+    for (m, k, b) in shapes {
+        let shape = Shape { m, k, b };
+        let mut valid = random.bytes(shape.stripe_length());
+        encode(shape, &mut valid);
+        if k <= 9 { every_third(test, &mut random, shape, &valid); }
+        for turn in 0..if k <= 5 { 32 } else { 12 } {
+            let two = random.two(k + 2);
+            let wrong = with_two_changed(test, &mut random, shape, &valid, two, turn % 4);
+            match two_changed(test, shape, &valid, &wrong, two) {
+                Some(_) => named += 1,
+                None => six += 1,
+            }
+        }
+    }
+    test.same(|| format!("two wrong at random: {named} named, {six} not"), named > 50 && six > 100, true);
 }
 
 /// The columns that a text of `shelf` prints, without its first and last line.
@@ -969,12 +1194,13 @@ fn maps(test: &mut Test) {
 }
 
 pub fn run(out: &mut impl Write) -> io::Result<bool> {
-    let groups: [(&str, fn(&mut Test)); 10] = [
+    let groups: [(&str, fn(&mut Test)); 11] = [
         ("document", document),
         ("shapes", shapes),
         ("lengths", lengths),
         ("searches", searches),
         ("blank", blank),
+        ("two wrong", two_wrong),
         ("ranks", ranks),
         ("images", images),
         ("maps", maps),

@@ -62,6 +62,21 @@ const FAINT: [&str; 14] = [
     "intact sum zero", "intact parity zero",
 ];
 
+/// Of a stripe that differs in exactly two columns from the stripe of the last check that was valid. From a request alone this
+/// cannot be told: every broken stripe differs in exactly two columns from some valid one. `sealed` is a rewrite that is done:
+/// it makes the stripe valid, with three columns wrong.
+const TWO_WRONG: [&str; 23] = [
+    "check two wrong",
+    "locate two wrong, a third named", "locate two wrong, a third named small", "locate two wrong, a third named long cells",
+    "locate two wrong, a third named many columns",
+    "locate two wrong, data named", "locate two wrong, H named", "locate two wrong, D named",
+    "locate two wrong, 6", "locate two wrong, 6 small", "locate two wrong, 6 long cells", "locate two wrong, 6 many columns",
+    "locate two wrong, data+data", "locate two wrong, data+H", "locate two wrong, data+D", "locate two wrong, H+D",
+    "rewrite two wrong, sealed", "rewrite two wrong, 5 one of the two", "rewrite two wrong, 5 another",
+    "restore two wrong, 5", "restore two wrong, both absent", "restore two wrong, the third absent",
+    "restore two wrong, another pair absent",
+];
+
 /// Of a request for gaps beside its k, where that is one of the named.
 const GAPS: [&str; 15] = [
     "k ordinary", "k large",
@@ -100,6 +115,7 @@ fn expected_cells() -> Vec<String> {
         cells.extend(EXTENTS.iter().map(|kind| format!("{word} blank {kind}")));
         cells.extend(FAINT.iter().map(|name| format!("{word} {name}")));
     }
+    cells.extend(TWO_WRONG.iter().map(|name| name.to_string()));
     cells.extend(BAD_M.iter().map(|m| format!("refused m={m}")));
     cells.extend(BAD_K.iter().map(|k| format!("refused k={k}")));
     cells.extend(BAD_B.iter().map(|b| format!("refused b={b}")));
@@ -188,10 +204,59 @@ fn faults(shape: Shape, map: &Map, stripe: &[u8], bench: &[u8], column: usize) -
     holding(shape_faults(shape).into_iter().chain(others))
 }
 
-struct Tally(BTreeMap<String, usize>);
+/// The cells met, and the stripe of the last check that was valid.
+struct Tally { cells: BTreeMap<String, usize>, valid: Option<(Shape, Vec<u8>)> }
 
 impl Tally {
-    fn add(&mut self, name: impl Into<String>) { *self.0.entry(name.into()).or_insert(0) += 1; }
+    fn add(&mut self, name: impl Into<String>) { *self.cells.entry(name.into()).or_insert(0) += 1; }
+
+    /// The two columns in which the stripe differs from the one of the last check that was valid, if it is two.
+    fn two_wrong(&self, shape: Shape, stripe: &[u8]) -> Option<[usize; 2]> {
+        let (_, valid) = self.valid.as_ref().filter(|(other, valid)| *other == shape && valid.len() == stripe.len())?;
+        let differs = |&column: &usize| stripe[shape.column(column)] != valid[shape.column(column)];
+        let columns: Vec<usize> = (0..shape.columns()).filter(differs).collect();
+        columns.try_into().ok()
+    }
+
+    /// What is asked of a stripe with two wrong columns, and the answer.
+    fn of_two_wrong(&mut self, request: &Request, answer: &[usize]) {
+        let (shape, stripe) = match request {
+            Request::Check(n, s) | Request::Locate(n, s) | Request::Rewrite(n, s, _) | Request::Restore(n, _, s, _) => (*n, s),
+            _ => return,
+        };
+        let Some(two) = self.two_wrong(shape, stripe) else { return };
+        let met = match (request, answer[0] as u8) {
+            (Request::Check(..), FINE) if answer[3] as u8 == FOUND_BROKEN => vec!["check two wrong".to_string()],
+            (Request::Locate(..), number) => {
+                let third = answer[1] as u8 == FOUND_COLUMN && !two.contains(&answer[2]);
+                let what = match number {
+                    NONE_NEAR => "6",
+                    _ if third => "a third named",
+                    _ => "against the rule",
+                };
+                let named = third.then(|| format!("{} named", pattern(shape, &answer[2..])));
+                let kinds = [what.to_string(), format!("{what} {}", extent(shape)), pattern(shape, &two).to_string()];
+                kinds.into_iter().chain(named).map(|kind| format!("locate two wrong, {kind}")).collect()
+            }
+            (Request::Rewrite(..), FINE) => vec!["rewrite two wrong, sealed".to_string()],
+            (Request::Rewrite(.., column), NONE_FITS) => {
+                let which = if two.contains(column) { "one of the two" } else { "another" };
+                vec![format!("rewrite two wrong, 5 {which}")]
+            }
+            (Request::Restore(..), NONE_FITS) => vec!["restore two wrong, 5".to_string()],
+            (Request::Restore(_, map, ..), FINE) => {
+                let absent = map.absent(shape);
+                let which = match absent.len() {
+                    1 => "the third",
+                    _ if absent == two => "both",
+                    _ => "another pair",
+                };
+                vec![format!("restore two wrong, {which} absent")]
+            }
+            _ => vec![],
+        };
+        met.into_iter().for_each(|name| self.add(name));
+    }
 
     fn shape(&mut self, shape: Shape) {
         let Shape { m, k, b } = shape;
@@ -405,11 +470,13 @@ impl Tally {
         let answer: Vec<usize> = text.split(' ').map_while(|field| field.parse().ok()).collect();
         let number = answer[0] as u8;
         self.add(format!("{} {number}", request.word()));
+        self.of_two_wrong(request, &answer);
         match request {
             Request::Encode(shape, stripe) => self.plain("encode", *shape, stripe),
             Request::Check(shape, stripe) => {
                 self.plain("check", *shape, stripe);
                 self.checked(*shape, stripe, &answer);
+                if is_valid(*shape, stripe) { self.valid = Some((*shape, stripe.clone())); }
             }
             Request::Locate(shape, stripe) => {
                 self.plain("locate", *shape, stripe);
@@ -443,7 +510,7 @@ impl Tally {
 }
 
 pub fn run(requests: impl BufRead, out: &mut impl Write) -> io::Result<bool> {
-    let mut tally = Tally(BTreeMap::new());
+    let mut tally = Tally { cells: BTreeMap::new(), valid: None };
     let mut good = true;
     for line in requests.lines() {
         match Request::parse(&line?) {
@@ -455,11 +522,11 @@ pub fn run(requests: impl BufRead, out: &mut impl Write) -> io::Result<bool> {
         }
     }
     for name in expected_cells() {
-        let count = tally.0.remove(&name).unwrap_or(0);
+        let count = tally.cells.remove(&name).unwrap_or(0);
         good &= count > 0;
         writeln!(out, "{name} {count}")?;
     }
-    for (name, count) in tally.0 {
+    for (name, count) in tally.cells {
         writeln!(out, "other: {name} {count}")?;
     }
     Ok(good)

@@ -4,7 +4,7 @@ use say::locate_line;
 use say::report_line;
 
 // A stripe of C1's shape, checked and located.
-fn stripe_lines(out: &mut [u8], at: usize, name: &[u8], stripe: &[u8]) -> usize {
+pub(crate) fn stripe_lines(out: &mut [u8], at: usize, name: &[u8], stripe: &[u8]) -> usize {
     let next = check_line(out, at, name, 3, 3, 1, stripe);
     locate_line(out, next, name, 3, 3, 1, stripe)
 }

@@ -1,7 +1,9 @@
 // The document's cases C1 to C11, as lines of text; each function answers the place after its lines, which have a greatest length. C1 is the stripe of m = 3,
-// k = 3, b = 1 with the data 01 02, 04 08, 10 20. Right and wrong shapes stand in `shapes`, and what is nearly C11 in `blank`.
+// k = 3, b = 1 with the data 01 02, 04 08, 10 20. Right and wrong shapes stand in `shapes`, what is nearly C11 in `blank`, and C1 with two
+// wrong columns in `two_wrong`.
 mod blank;
 mod shapes;
+mod two_wrong;
 
 pub use blank::blank_lines;
 use evenodd::Map;
@@ -11,6 +13,7 @@ use say::locate_line;
 use say::restore_line;
 use say::rewrite_line;
 pub use shapes::shape_lines;
+pub use two_wrong::two_wrong_lines;
 use words::say_bytes;
 use words::say_word;
 ghost use mathlib.Core.Path.{_≡_};

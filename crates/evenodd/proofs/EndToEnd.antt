@@ -1,7 +1,7 @@
 -- What follows from the promises alone, from end to end: the statements of specs/EndToEnd.
 use mathlib.Core.Path.{_≡_, refl, sym, ap, _∙_}
 use mathlib.Core.Logic.{_≢_, _↔_, _⊎_, inl, inr, by-cases}
-use mathlib.Core.Bool.{Bool, true, false, cond}
+use mathlib.Core.Bool.{Bool, true, false, cond, true≢false}
 use mathlib.Core.List.{List, [], _∷_}
 use Prim.Native.Nat.{ℕ, _+_, _-_, _≤_, _<_}
 use native.Mathlib.Decide.{ℕ-discrete, decLt}
@@ -13,9 +13,10 @@ use Rattle.parity.specs.Stripe.{byte, Valid, Blank, Intact}
 use Rattle.parity.specs.Presence.{present, absences, differs, differing, Agrees, AgreesBut}
 use Rattle.parity.specs.Theorems.{AtMostOne, NeverOne, IntactOrBlank}
 use Rattle.parity.proofs.Bytes.{stripe-ext}
-use Rattle.parity.proofs.Columns.{same-column, column-same}
+use Rattle.parity.proofs.Columns.{same-column, column-same, differs-alike}
 use Rattle.parity.proofs.Count.{few-pass}
 use Rattle.parity.proofs.Theorems.{at-most-one, never-one, blank-valid, intact-or-blank}
+use Rattle.parity.proofs.TwoWrong.{near-two}
 use Rattle.refusals.specs.declared.Refusal.{Refusal}
 use Rattle.refusals.specs.declared.Refusal.the-variants.{Ambiguous, Contradicted, Unmendable}
 use Rattle.refusals.specs.Refusals.{numberOf, pass, refuse, Gives}
@@ -41,7 +42,7 @@ use Rattle.evenodd.specs.Rewrites as rewrites
 use Rattle.evenodd.specs.Restores.{verdictOf, RestoredFrom}
 use Rattle.evenodd.specs.Shows.{half}
 use Rattle.evenodd.specs.Mends.{Mends}
-use Rattle.evenodd.specs.EndToEnd.{Fits, FitsAlone, Together, GivesTheOne, OneOrNothing, RestoreGivesBack, SameWords, PairGivesBack, PairMends, NothingToRewrite, RewriteKeepsValid}
+use Rattle.evenodd.specs.EndToEnd.{Fits, FitsAlone, Together, GivesTheOne, OneOrNothing, RestoreGivesBack, SameWords, PairGivesBack, PairMends, NothingToRewrite, NothingElseToRewrite, RewriteKeepsValid}
 use Rattle.evenodd.proofs.Determined.{locate-passed}
 use Rattle.evenodd.proofs.Located.{valid-passes}
 use Rattle.evenodd.proofs.Rewritten.{between, agrees-self, one-but, rewrite-told}
@@ -147,7 +148,7 @@ restore-gives-back m k b map fresh s lost before after (restored.Refused r) enc 
     (p .told)))
 
 -- rewrite of a column, where a valid stripe v agrees with all others: it passes, and leaves v
-rewrite-leaves : (m k b u : ℕ) → Shape m k b → u < k + 2 → (s v after : List ℕ) → length s ≡ stripeLength m k b → Valid m k b v → AgreesBut m k b u s v → (q : Rewritten) → Rewrites m k b u s after q
+pub rewrite-leaves : (m k b u : ℕ) → Shape m k b → u < k + 2 → (s v after : List ℕ) → length s ≡ stripeLength m k b → Valid m k b v → AgreesBut m k b u s v → (q : Rewritten) → Rewrites m k b u s after q
     → (q ≡ rewritten.Done) × (after ≡ v)
 rewrite-leaves m k b u h hu s v after whole vv a rewritten.Done p = (refl, one-but m k b u h after v (p .left .0) vv (between m k b u s s after v (agrees-self m k b u s) (p .left .1) a))
 rewrite-leaves m k b u h hu s v after whole vv a (rewritten.Refused f) p =
@@ -177,6 +178,24 @@ nothing-to-rewrite m k b column s after q p hu w =
     refused-with : (q : Rewritten) {f : Refusal} → rewrites.verdictOf q ≡ refuse f → q ≡ rewritten.Refused f
     refused-with rewritten.Done {f} e = absurd (passes-not f e)
     refused-with (rewritten.Refused g) {f} e = ap rewritten.Refused (refuse-one g f e)
+
+pub nothing-else-to-rewrite : NothingElseToRewrite
+unfolding NothingElseToRewrite
+nothing-else-to-rewrite m k b u column s after rewritten.Done p hc ne w =
+    -- both leave valid stripes that differ in no other column than u and this one: they would be one, and in column u the first differs from s
+    let (h, whole) = locate-passed m k b s (p .told) in
+    let o = p .found refl .named u .0 refl in
+    let e : after ≡ o .other
+    = near-two m k b h after (o .other) (w .left .0) (o .valid) column u (λ t ht nc nu. sym (differs-alike m b s after (o .other) t (w .left .1 .at t ht nc)) ∙ o .differ .at t ht ∙ ne-eqb u t (λ q. nu (sym q))) in
+    absurd (true≢false (sym (o .differ .at u (o .inside) ∙ eq-eqb u u refl) ∙ ap (λ z. differs m b s z u) (sym e) ∙ w .left .1 .at u (o .inside) (λ q. ne (sym q))))
+nothing-else-to-rewrite m k b u column s after (rewritten.Refused f) p hc ne w =
+    let (h, whole) = locate-passed m k b s (p .told) in
+    five (gives-rest (stripeRules m k b (length s)) (columnRules m k b column s) _ (stripe-passed m k b (length s) h whole) (w .told))
+  where
+    five : Gives (columnRules m k b column s) (refuse f) → rewritten.Refused f ≡ rewritten.Refused Contradicted
+    five (inl out) = absurd (omega (arith, out .0))
+    five (inr (_, inl none)) = ap rewritten.Refused (refuse-one f Contradicted (none .1))
+    five (inr (_, inr passed)) = absurd (passes-not f (sym (passed .1)))
 
 pub rewrite-keeps-valid : RewriteKeepsValid
 unfolding RewriteKeepsValid

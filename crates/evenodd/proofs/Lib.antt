@@ -8,3 +8,4 @@ pub mod Rewritten
 pub mod Shown
 pub mod Determined
 pub mod EndToEnd
+pub mod TwoWrong

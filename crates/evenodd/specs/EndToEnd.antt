@@ -1,4 +1,4 @@
--- What follows from the promises alone, from end to end. Each statement is a type, which proofs/EndToEnd inhabits.
+-- What follows from the promises alone, from end to end. Each statement is a type, which proofs/EndToEnd, or where two columns were changed proofs/TwoWrong, inhabits.
 --   OneOrNothing       if exactly one valid stripe agrees with the columns that are present, restore gives it: stripe and bench together are that one.
 --                      Otherwise it gives nothing, and says why: 4 exactly when two different ones agree, 5 exactly when none does
 --   RestoreGivesBack   encode, lose at most two columns, whatever stands in their places: restore gives them back
@@ -7,16 +7,27 @@
 --                      none was changed locate says intact, or blank where every byte is zero
 --   PairMends          locate, and then rewrite of the column that it names, keep what mend promised: that rewrite passes, and leaves what mend left
 --   NothingToRewrite   where locate gives 6, rewrite of any column gives 5: there is nothing to rewrite
+--   NothingElseToRewrite   where locate names a column, rewrite of any other gives 5
 --   RewriteKeepsValid  a valid stripe of which any column is rewritten stays as it is
+--   RestoreAsRewrite   restore with one column absent says what rewrite of it says, 5 or a pass, and gives what that leaves
+-- Where exactly two columns of a valid stripe were changed (`TwoChanged`):
+--   SixOrAThird        check says neither intact nor blank and is not refused, and locate gives 6 or names a column that is neither of the two
+--   AnyThirdNamed      it can be any third that is named, whatever the stripe and whichever the two
+--   RewriteSeals       rewrite of the third that is named passes, and leaves a valid stripe that differs from the first in exactly three columns: it is never
+--                      that one, and check never calls it broken
+--   OneOfTwoAbsent     with one of the two absent, or none, and every other column present, restore gives 5
+--   BothAbsent         with both absent, and no other column, restore gives back the first
+--   OtherTwoAbsent     with two columns absent that are not both of them restore passes, and gives a valid stripe that is not the first
 use mathlib.Core.Path.{_≡_}
 use mathlib.Core.Logic.{_≢_, _↔_, _⊎_}
-use mathlib.Core.Bool.{Bool, cond}
-use mathlib.Core.List.{List}
+use mathlib.Core.Bool.{Bool, true, not, cond}
+use mathlib.Core.List.{List, [], _∷_}
 use Prim.Native.Nat.{ℕ, _+_, _-_, _≤_, _<_}
 use lib.ListN.{length}
-use Rattle.parity.specs.Shape.{Shape, benchLength}
+use Rattle.parity.specs.Shape.{member, Shape, benchLength}
 use Rattle.parity.specs.Stripe.{byte, Stripe, Valid, Blank}
-use Rattle.parity.specs.Presence.{present, absences, Agrees, AgreesBut}
+use Rattle.parity.specs.Presence.{present, absences, differing, DifferIn, Agrees, AgreesBut}
+use Rattle.parity.specs.Theorems.{TwoChanged}
 use Rattle.maps.specs.declared.Map.{Map}
 use Rattle.refusals.specs.declared.Refusal.{Refusal}
 use Rattle.refusals.specs.declared.Refusal.the-variants.{Ambiguous, Contradicted, Unmendable}
@@ -37,6 +48,7 @@ use Rattle.evenodd.specs.Checks.{Checks}
 use Rattle.evenodd.specs.Restores.{verdictOf, countOf, firstOf, secondOf, Benched, Restores}
 use Rattle.evenodd.specs.Locates.{Locates}
 use Rattle.evenodd.specs.Rewrites.{Rewrites}
+use Rattle.evenodd.specs.Rewrites as rewrites
 use Rattle.evenodd.specs.Mends.{Mends, Pair}
 use Rattle.evenodd.specs.Shows.{half}
 
@@ -123,6 +135,48 @@ unfoldable pub NothingToRewrite : Type 0
 NothingToRewrite = (m k b column : ℕ) (s after : List ℕ) (q : Rewritten) → Locates m k b s (located.Refused Unmendable) → column < k + 2
     → Rewrites m k b column s after q → q ≡ rewritten.Refused Contradicted
 
+unfoldable pub NothingElseToRewrite : Type 0
+NothingElseToRewrite = (m k b u column : ℕ) (s after : List ℕ) (q : Rewritten) → Locates m k b s (located.Column u) → column < k + 2 → column ≢ u
+    → Rewrites m k b column s after q → q ≡ rewritten.Refused Contradicted
+
 unfoldable pub RewriteKeepsValid : Type 0
 RewriteKeepsValid = (m k b column : ℕ) (s after : List ℕ) (q : Rewritten) → Shape m k b → Valid m k b s → column < k + 2
     → Rewrites m k b column s after q → (q ≡ rewritten.Done) × (after ≡ s)
+
+-- of the columns exactly those that are listed are absent
+pub record AbsentAre (k : ℕ) (columns : List ℕ) (map : List Bool) : Type 0 where
+  pub at : (t : ℕ) → t < k + 2 → present map t ≡ not (member t columns)
+
+unfoldable pub RestoreAsRewrite : Type 0
+RestoreAsRewrite = (m k b column : ℕ) (map : Map) (s before after left : List ℕ) (r : Restored) (q : Rewritten) → Asked m k b map s before → column < k + 2
+    → AbsentAre k (column ∷ []) (map .places) → Restores m k b map s before after r → Rewrites m k b column s left q
+    → (verdictOf r ≡ rewrites.verdictOf q) × (q ≡ rewritten.Done → Together m k b (map .places) s after left)
+
+unfoldable pub SixOrAThird : Type 0
+SixOrAThird = (m k b x y : ℕ) (s wrong : List ℕ) (r : Checked) (q : Located) → Shape m k b → TwoChanged m k b x y s wrong → Checks m k b wrong r → Locates m k b wrong q
+    → (r ≢ checked.Intact) × (r ≢ checked.Blank) × ((f : Refusal) → r ≢ checked.Refused f)
+    × ((q ≡ located.Refused Unmendable) ⊎ ((u : ℕ) × (q ≡ located.Column u) × (u < k + 2) × (u ≢ x) × (u ≢ y)))
+
+unfoldable pub AnyThirdNamed : Type 0
+AnyThirdNamed = (m k b x y u : ℕ) (s : List ℕ) → Shape m k b → Valid m k b s → x < k + 2 → y < k + 2 → u < k + 2 → x ≢ y → u ≢ x → u ≢ y
+    → (wrong : List ℕ) × TwoChanged m k b x y s wrong × ((q : Located) → Locates m k b wrong q → q ≡ located.Column u)
+
+unfoldable pub RewriteSeals : Type 0
+RewriteSeals = (m k b x y u : ℕ) (s wrong after : List ℕ) (q : Rewritten) → TwoChanged m k b x y s wrong → Locates m k b wrong (located.Column u) → Rewrites m k b u wrong after q
+    → (q ≡ rewritten.Done) × Valid m k b after × DifferIn m k b (λ t. member t (x ∷ y ∷ u ∷ [])) s after × (differing m k b s after ≡ 3) × (after ≢ s)
+    × ((r : Checked) → Checks m k b after r → (r ≡ checked.Intact) ⊎ (r ≡ checked.Blank))
+
+unfoldable pub OneOfTwoAbsent : Type 0
+OneOfTwoAbsent = (m k b x y one : ℕ) (map : Map) (s wrong before after : List ℕ) (r : Restored) → TwoChanged m k b x y s wrong → Asked m k b map wrong before
+    → (one ≡ x) ⊎ (one ≡ y) → ((t : ℕ) → t < k + 2 → t ≢ one → present (map .places) t ≡ true) → Restores m k b map wrong before after r
+    → (r ≡ restored.Refused Contradicted) × (after ≡ before)
+
+unfoldable pub BothAbsent : Type 0
+BothAbsent = (m k b x y : ℕ) (map : Map) (s wrong before after : List ℕ) (r : Restored) → TwoChanged m k b x y s wrong → Asked m k b map wrong before
+    → AbsentAre k (x ∷ y ∷ []) (map .places) → Restores m k b map wrong before after r
+    → (verdictOf r ≡ pass) × Together m k b (map .places) wrong after s
+
+unfoldable pub OtherTwoAbsent : Type 0
+OtherTwoAbsent = (m k b x y : ℕ) (map : Map) (s wrong before after : List ℕ) (r : Restored) → TwoChanged m k b x y s wrong → Asked m k b map wrong before
+    → absences k (map .places) ≡ 2 → (present (map .places) x ≡ true) ⊎ (present (map .places) y ≡ true) → Restores m k b map wrong before after r
+    → (verdictOf r ≡ pass) × ((v : List ℕ) × Valid m k b v × Together m k b (map .places) wrong after v × (v ≢ s))

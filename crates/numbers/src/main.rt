@@ -1,4 +1,4 @@
-// Runs every number that the document gives to hold against the build, and more of blank stripes, of wrong shapes, of lengths and of gaps, and prints what the library answers, one line each. What is printed is
+// Runs every number that the document gives to hold against the build, and more of blank stripes, of two wrong columns, of wrong shapes, of lengths and of gaps, and prints what the library answers, one line each. What is printed is
 // compared with the stored text.
 mod others;
 
@@ -47,9 +47,10 @@ fn main() {
     let mut out = [0u8; 8192];
     let first = proved_cases(&mut out, 0);
     let second = cases::blank_lines(&mut out, first);
-    let third = cases::shape_lines(&mut out, second);
-    let fourth = other_cases(&mut out, third);
-    let end = image_cases(&mut out, fourth);
+    let third = cases::two_wrong_lines(&mut out, second);
+    let fourth = cases::shape_lines(&mut out, third);
+    let fifth = other_cases(&mut out, fourth);
+    let end = image_cases(&mut out, fifth);
     if end <= 8192 {
         io::write_all(1, &out[0..end]);
     }

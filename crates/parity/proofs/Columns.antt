@@ -1,24 +1,27 @@
 -- Which columns of two stripes differ, and which columns are absent.
 --   same-column, column-same   columns that do not differ have the same bytes, and the other way round
 --   places-same                columns with the same bytes, place by place, do not differ
+--   differs-back               s differs from v where v does from s
+--   differs-alike              a stripe with the same column differs where the first does
 --   Cover, cover               with at most two columns absent: two columns, of which no other is absent. Where fewer are absent, H or D fills up.
 --   agrees-same                present columns that agree have the same bytes
-use mathlib.Core.Path.{_≡_, refl, sym, ap}
-use mathlib.Core.Logic.{_≢_, inl, inr}
+use mathlib.Core.Path.{_≡_, refl, sym, ap, _∙_}
+use mathlib.Core.Logic.{_≢_, inl, inr, by-cases}
 use mathlib.Core.Bool.{Bool, true, false, not}
 use mathlib.Core.List.{List}
 use Prim.Native.Nat.{ℕ, _+_, _-_, _*_, _≤_, _<_}
 use native.Mathlib.Nat.{eq-or-lt-of-le}
-use native.Mathlib.Decide.{decLt}
+use native.Mathlib.Decide.{decLt, ℕ-discrete}
 use native.Mathlib.Omega.{arith}
 use lib.Arith.{digits-lt}
+use lib.Dec.{eqb}
 use lib.ListN.{getD}
-use borrow.Author.Tests.{eqb-true, eq-eqb}
+use borrow.Author.Tests.{eqb-true, eq-eqb, ne-eqb}
 use Rattle.parity.specs.Sum.{count}
 use Rattle.parity.specs.Shape.{columnLength}
 use Rattle.parity.specs.Stripe.{byte}
 use Rattle.parity.specs.Presence.{differs}
-use Rattle.parity.proofs.Count.{none-pass, Last, last-pass, some-false, false-some}
+use Rattle.parity.proofs.Count.{none-pass, Last, last-pass, some-cong, some-false, false-some}
 
 pub not-false : (b : Bool) → not b ≡ false → b ≡ true
 not-false true e = refl
@@ -37,6 +40,18 @@ pub places-same : (m b : ℕ) (s v : List ℕ) (t : ℕ)
     → ((j : ℕ) → j < columnLength m b → getD s (t * columnLength m b + j) 0 ≡ getD v (t * columnLength m b + j) 0) → differs m b s v t ≡ false
 unfolding byte columnLength
 places-same m b s v t h = column-same m b s v t (λ l i hl hi. h (i * b + l) (digits-lt hi hl))
+
+pub differs-back : (m b : ℕ) (s v : List ℕ) (t : ℕ) → differs m b s v t ≡ differs m b v s t
+unfolding differs
+differs-back m b s v t = some-cong (m - 1) (λ i hi. some-cong b (λ l hl. ap not (eqb-back (byte m b s l i t) (byte m b v l i t))))
+  where
+    eqb-back : (x y : ℕ) → eqb x y ≡ eqb y x
+    eqb-back x y = by-cases (ℕ-discrete x y) (λ e. eq-eqb x y e ∙ sym (eq-eqb y x (sym e))) (λ ne. ne-eqb x y ne ∙ sym (ne-eqb y x (λ e. ne (sym e))))
+
+pub differs-alike : (m b : ℕ) (s w v : List ℕ) (t : ℕ) → differs m b s w t ≡ false → differs m b s v t ≡ differs m b w v t
+unfolding differs
+differs-alike m b s w v t e =
+    some-cong (m - 1) (λ i hi. some-cong b (λ l hl. ap (λ x. not (eqb x (byte m b v l i t))) (same-column m b s w t e l i hl hi)))
 
 pub other-way : (x y : ℕ) → x ≢ y → (x < y → ⊥) → y < x
 other-way x y ne l = elim (decLt y x) [ yes h ↦ h | no h ↦ absurd (ne (omega arith)) ]

@@ -6,17 +6,23 @@
 --   all-fail         and the other way round
 --   last-pass        the highest number below n that passes, and the count of those below it
 --   one-pass         a count of at most one: every number below n but one fails
+--   listed-pass      all fail but those of a list: at most as many pass as are listed
 --   few-pass         all but one fail: at most one passes
 --   some-false, false-some   none passes, said number by number
 --   some-true        a number that passes
 use mathlib.Core.Path.{_≡_, refl, sym, ap, ap₂, _∙_}
 use mathlib.Core.Logic.{_≢_, _⊎_, inl, inr, by-cases}
-use mathlib.Core.Bool.{Bool, true, false, cond, _||_, false≢true}
+use mathlib.Core.Bool.{Bool, true, false, not, cond, _||_, _&&_, true≢false, false≢true}
+use mathlib.Core.List.{List, [], _∷_}
 use Prim.Native.Nat.{ℕ, zero, suc, _≤_, _<_}
 use native.Mathlib.Nat.{le-step, lt-suc-self, eq-or-lt-of-le, le-of-suc-le-suc, not-suc-le-zero}
 use native.Mathlib.Decide.{decLt, ℕ-discrete}
 use native.Mathlib.Omega.{arith}
+use lib.Dec.{eqb}
+use lib.ListN.{length}
+use borrow.Author.Tests.{eq-eqb, ne-eqb}
 use Rattle.parity.specs.Sum.{count, some}
+use Rattle.parity.specs.Shape.{member}
 
 pub count-cong : (n : ℕ) {f g : ℕ → Bool} → ((t : ℕ) → t < n → f t ≡ g t) → count n f ≡ count n g
 unfolding count
@@ -92,17 +98,36 @@ one-pass n f pos few = elim (decLt 0 (count n f)) [
   )
 ]
 
+-- all but one of those that pass
+but-one : (n u : ℕ) (f : ℕ → Bool) → count n f ≤ suc (count n (λ t. not (eqb u t) && f t))
+unfolding count
+but-one zero u f = omega arith
+but-one (suc n) u f = by-cases (ℕ-discrete u n)
+    (λ e. rw (eq-eqb u n e, count-cong n {f = f} {g = λ t. not (eqb u t) && f t} (λ t l. rw (ne-eqb u t (λ q. omega arith)))) (most (f n)))
+    (λ ne. rw (ne-eqb u n ne) (step (f n) (but-one n u f)))
+  where
+    most : (b : Bool) {c : ℕ} → cond b (suc c) c ≤ suc c
+    most true = omega arith
+    most false = omega arith
+
+    step : (b : Bool) {c d : ℕ} → c ≤ suc d → cond b (suc c) c ≤ suc (cond b (suc d) d)
+    step true h = omega arith
+    step false h = h
+
+-- all fail but those of a list: at most as many pass as are listed
+pub listed-pass : (n : ℕ) (xs : List ℕ) (f : ℕ → Bool) → ((t : ℕ) → t < n → member t xs ≡ false → f t ≡ false) → count n f ≤ length xs
+listed-pass n [] f h = omega (arith, all-fail n f (λ t l. h t l refl))
+listed-pass n (x ∷ xs) f h =
+    let rest = listed-pass n xs (λ t. not (eqb x t) && f t) (λ t l other. go (eqb x t) t refl l other) in
+    omega (arith, but-one n x f, rest)
+  where
+    go : (c : Bool) (t : ℕ) → eqb x t ≡ c → t < n → member t xs ≡ false → (not c && f t) ≡ false
+    go true t e l other = refl
+    go false t e l other = h t l (rw (e, other) refl)
+
 -- all but one fail: at most one passes
 pub few-pass : (n u : ℕ) (f : ℕ → Bool) → ((t : ℕ) → t < n → t ≢ u → f t ≡ false) → count n f ≤ 1
-unfolding count
-few-pass zero u f h = omega arith
-few-pass (suc n) u f h = by-cases (ℕ-discrete n u)
-    (λ e. rw (all-fail n f (λ t l. h t (le-step l) (λ q. omega arith))) (go (f n)))
-    (λ ne. rw (h n (lt-suc-self n) ne) (few-pass n u f (λ t l. h t (le-step l))))
-  where
-    go : (b : Bool) → cond {A = ℕ} b 1 0 ≤ 1
-    go true = omega arith
-    go false = omega arith
+few-pass n u f h = listed-pass n (u ∷ []) f (λ t l other. h t l (λ e. true≢false (rw (eq-eqb u t (sym e)) at other)))
 
 pub some-cong : (n : ℕ) {f g : ℕ → Bool} → ((t : ℕ) → t < n → f t ≡ g t) → some n f ≡ some n g
 unfolding some

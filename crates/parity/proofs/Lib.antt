@@ -13,6 +13,7 @@ pub mod Columns
 pub mod Prime
 pub mod Stripes
 pub mod Theorems
+pub mod TwoWrong
 pub mod Table
 pub mod Shapes
 pub mod Candidate

@@ -1,8 +1,8 @@
--- What follows from the equations, for every shape. Each statement is a type, which proofs/Table (for Table) and proofs/Theorems inhabit.
+-- What follows from the equations, for every shape. Each statement is a type, which proofs/Table (for Table), proofs/TwoWrong (where two columns were changed) and proofs/Theorems inhabit.
 use mathlib.Core.Path.{_≡_}
 use mathlib.Core.Logic.{_≢_, _↔_, _⊎_}
 use mathlib.Core.Bool.{Bool, true}
-use mathlib.Core.List.{List}
+use mathlib.Core.List.{List, [], _∷_}
 use Prim.Native.Nat.{ℕ, _+_, _≤_, _<_}
 use lib.Dec.{eqb}
 use Rattle.parity.specs.Shape.{OddPrime, accepted, member, Shape}
@@ -40,6 +40,27 @@ AbsentUnread = (m k b : ℕ) (map : List Bool) (s r : List ℕ) → Agrees m k b
 unfoldable pub OneWrong : Type 0
 OneWrong = (m k b : ℕ) → Shape m k b → (s u v : List ℕ) (x y : ℕ) → x < k + 2 → y < k + 2 → Valid m k b u → Valid m k b v
     → DifferIn m k b (eqb x) s u → DifferIn m k b (eqb y) s v → (x ≡ y) × (u ≡ v)
+
+-- wrong is the valid stripe s of which exactly two columns, x and y, were changed
+pub record TwoChanged (m k b x y : ℕ) (s wrong : List ℕ) : Type 0 where
+  pub valid : Valid m k b s
+  pub stripe : Stripe m k b wrong
+  pub first : x < k + 2
+  pub second : y < k + 2
+  pub apart : x ≢ y
+  pub differ : DifferIn m k b (λ t. member t (x ∷ y ∷ [])) s wrong
+
+-- What is left then is not valid, and a valid stripe that differs from it in exactly one column differs in a third, and from s in exactly these three.
+unfoldable pub TwoWrong : Type 0
+TwoWrong = (m k b : ℕ) → Shape m k b → (x y : ℕ) (s wrong : List ℕ) → TwoChanged m k b x y s wrong
+    → (Valid m k b wrong → ⊥)
+    × ((u : ℕ) (v : List ℕ) → u < k + 2 → Valid m k b v → DifferIn m k b (eqb u) wrong v
+    → (u ≢ x) × (u ≢ y) × DifferIn m k b (λ t. member t (x ∷ y ∷ u ∷ [])) s v × (differing m k b s v ≡ 3))
+
+-- Any third can be that one: any two columns of a valid stripe can be changed so that a valid stripe differs from what is left in exactly that third.
+unfoldable pub AnyThird : Type 0
+AnyThird = (m k b : ℕ) → Shape m k b → (x y u : ℕ) → x < k + 2 → y < k + 2 → u < k + 2 → x ≢ y → u ≢ x → u ≢ y → (s : List ℕ) → Valid m k b s
+    → (wrong : List ℕ) × TwoChanged m k b x y s wrong × ((v : List ℕ) × Valid m k b v × DifferIn m k b (eqb u) wrong v)
 
 -- A stripe is valid exactly when both counts are zero.
 unfoldable pub CountsTell : Type 0
