@@ -110,7 +110,8 @@ uint8_t oarwillow_locate(size_t m, size_t k, size_t b, const uint8_t *stripe, si
 /* Puts into the column that is named the one content that makes the stripe valid. It follows from the other columns, which stay; what
  * stood in the column is not read, and never alters the answer. 5 is decided before the first byte is written: no valid stripe agrees
  * with the other columns. Where two other columns are wrong and it passes, the damage is sealed: the stripe is valid, and wrong in
- * three. Where two may be, keep the column's bytes first, or mark both absent and restore. Refusals: 1, 12, 13, 2, 7, 5. */
+ * three. Where two may be, keep the column's bytes first, or mark the two that you suspect absent and restore. Refusals: 1, 12, 13, 2,
+ * 7, 5. */
 uint8_t oarwillow_rewrite(size_t m, size_t k, size_t b, uint8_t *stripe, size_t stripe_len, size_t column);
 
 /* Says where a column lies: `from_bench` 0 for the stripe and 1 for the bench, and the part's start and length there. It reads no byte

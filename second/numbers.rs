@@ -22,6 +22,8 @@ pub const TWO_WRONG: &str = "000204091020152a391e";
 const TWO_WRONG_SEALED: &str = "000204091121152a391e";
 /// C1 with bit 0 of a(0,0) and bit 1 of a(0,1) flipped.
 pub const TWO_WRONG_6: &str = "000206081020152a391e";
+/// C1 after a write of 05 for a(0,1) that columns 1 and 3 missed.
+const MISSED_WRITE: &str = "010204081020152a391f";
 const C3: &str = "00000000000000010100010100000001010101000001000101010001";
 const C9: &str = "01020408150a191e";
 pub const C5_IMAGE: &str = "0300030001000000\
@@ -83,7 +85,7 @@ fn header_only(name: &'static str, image: &str, number: u8) -> [Number; 2] {
 
 fn zeros(count: usize) -> String { "00".repeat(count) }
 
-/// C1 with one bit wrong in column 0 and one in column 1.
+/// C1 with one bit wrong in column 0 and one in column 1, and with two columns that missed a write.
 fn two_wrong() -> Vec<Number> {
     let s = |t: &str| t.to_string();
     let restored = |name: &'static str, stripe: &str, absent: &[usize], expected: &str| {
@@ -106,9 +108,12 @@ fn two_wrong() -> Vec<Number> {
         restored("two-wrong", TWO_WRONG, &[], "5 0 129 129 a1a2a3a4"),
         restored("two-wrong,0", TWO_WRONG, &[0], "5 0 129 129 a1a2a3a4"),
         restored("two-wrong,1", TWO_WRONG, &[1], "5 0 129 129 a1a2a3a4"),
+        restored("two-wrong,0,1", TWO_WRONG, &[0, 1], "0 2 0 1 01020408"),
+        // The sealed stripe agrees with the columns that are left, and so it is the one.
+        restored("two-wrong,0,2", TWO_WRONG, &[0, 2], "0 2 0 2 00021121"),
+        restored("two-wrong,1,2", TWO_WRONG, &[1, 2], "0 2 1 2 04091121"),
         restored("two-wrong,2", TWO_WRONG, &[2], "0 1 2 129 1121a3a4"),
         restored("two-wrong,3", TWO_WRONG, &[3], "5 0 129 129 a1a2a3a4"),
-        restored("two-wrong,0,1", TWO_WRONG, &[0, 1], "0 2 0 1 01020408"),
         // S=09+10=19. D gives a(0,0)=39+19+20=00 and a(1,0)=1e+19+04=03; then H is 00+04+10=14 and 03+09+20=2a.
         restored("two-wrong,0,3", TWO_WRONG, &[0, 3], "0 2 0 3 0003142a"),
         // Both cells are in row 0; a(0,0) is in D's equation 0, and a(0,1) in 1.
@@ -119,6 +124,12 @@ fn two_wrong() -> Vec<Number> {
         restored("two-wrong-6,0", TWO_WRONG_6, &[0], "5 0 129 129 a1a2a3a4"),
         restored("two-wrong-6,1", TWO_WRONG_6, &[1], "5 0 129 129 a1a2a3a4"),
         restored("two-wrong-6,0,1", TWO_WRONG_6, &[0, 1], "0 2 0 1 01020408"),
+        // With a(0,1)=05, which is not in S, row 0 is 01+05+10=14 and D's cell 1 is 18+02+05=1f. Of these three columns
+        // only D has the new byte: it differs from C1 in that alone.
+        ask("missed-write", format!("check 3 3 1 {MISSED_WRITE}"), s("0 0 1 3")),
+        ask("missed-write", format!("locate 3 3 1 {MISSED_WRITE}"), s("0 4 4")),
+        ask("missed-write", format!("rewrite 3 3 1 {MISSED_WRITE} 4"), format!("0 {C1}")),
+        restored("missed-write,1,3", MISSED_WRITE, &[1, 3], "0 2 1 3 0508142a"),
     ]
 }
 

@@ -30,7 +30,7 @@ const ROWS: [([usize; 3], Change, Option<usize>); 10] = [
 impl Change {
     fn text(self) -> &'static str {
         match self {
-            Change::SameBit => "any, in one and the same bit of the bytes",
+            Change::SameBit => "any, in bit 0 of the bytes",
             Change::OneBit => "one bit flipped",
             Change::AllBytes => "all bytes, at random",
         }

@@ -1,4 +1,5 @@
-// C1 with one bit flipped in column 0 and one in column 1: once so that locate names column 2, and once so that it names none; as lines of text.
+// C1 with one bit flipped in column 0 and one in column 1: once so that locate names column 2, and once so that it names none; and with two columns that
+// missed a write; as lines of text.
 use crate::blank::stripe_lines;
 use crate::five;
 use say::restore_line;
@@ -40,18 +41,20 @@ fn without_one(out: &mut [u8], at: usize) -> usize {
     without_line(out, second, b"two-wrong,1", &stripe, 1, 129)
 }
 
-// It without both, and without one of the two and H.
+// It without both, and without one of the two and column 2.
 fn without_two(out: &mut [u8], at: usize) -> usize {
     let stripe = [0u8, 2, 4, 9, 16, 32, 21, 42, 57, 30];
-    let next = without_line(out, at, b"two-wrong,0,1", &stripe, 0, 1);
-    without_line(out, next, b"two-wrong,0,3", &stripe, 0, 3)
+    let first = without_line(out, at, b"two-wrong,0,1", &stripe, 0, 1);
+    let second = without_line(out, first, b"two-wrong,0,2", &stripe, 0, 2);
+    without_line(out, second, b"two-wrong,1,2", &stripe, 1, 2)
 }
 
-// It without column 2 alone, and without H alone.
+// It without column 2 alone, without H alone, and without one of the two and H.
 fn without_another(out: &mut [u8], at: usize) -> usize {
     let stripe = [0u8, 2, 4, 9, 16, 32, 21, 42, 57, 30];
-    let next = without_line(out, at, b"two-wrong,2", &stripe, 2, 129);
-    without_line(out, next, b"two-wrong,3", &stripe, 3, 129)
+    let first = without_line(out, at, b"two-wrong,2", &stripe, 2, 129);
+    let second = without_line(out, first, b"two-wrong,3", &stripe, 3, 129);
+    without_line(out, second, b"two-wrong,0,3", &stripe, 0, 3)
 }
 
 // Other bits: no column is named, and none is to be rewritten.
@@ -69,13 +72,33 @@ fn not_named_without(out: &mut [u8], at: usize) -> usize {
     without_line(out, second, b"two-wrong-6,0,1", &stripe, 0, 1)
 }
 
+// C1 after a write of 5 for 4 in column 1, which changes a cell of H and one of D, and which columns 1 and 3 missed. Column 4 is named, and rewritten: that leaves C1.
+fn missed_write(out: &mut [u8], at: usize) -> usize {
+    let mut stripe = [1u8, 2, 4, 8, 16, 32, 21, 42, 57, 31];
+    let next = stripe_lines(out, at, b"missed-write", &stripe);
+    rewrite_line(out, next, b"missed-write", [3, 3, 1], &mut stripe, 4)
+}
+
+// That stripe restored without the columns that missed it.
+fn missed_write_without(out: &mut [u8], at: usize) -> usize {
+    let stripe = [1u8, 2, 4, 8, 16, 32, 21, 42, 57, 31];
+    without_line(out, at, b"missed-write,1,3", &stripe, 1, 3)
+}
+
+// Both of these.
+fn missed_write_lines(out: &mut [u8], at: usize) -> usize {
+    let next = missed_write(out, at);
+    missed_write_without(out, next)
+}
+
 // All of them.
 pub fn two_wrong_lines(out: &mut [u8], at: usize) -> usize {
     let a = named(out, at);
     let b = sealed(out, a);
     let c = without_one(out, b);
-    let d = without_another(out, c);
-    let e = without_two(out, d);
+    let d = without_two(out, c);
+    let e = without_another(out, d);
     let f = not_named(out, e);
-    not_named_without(out, f)
+    let g = not_named_without(out, f);
+    missed_write_lines(out, g)
 }

@@ -199,21 +199,18 @@ other-two-absent m k b x y map s wrong before after r c a two some p =
 
 pub restore-as-rewrite : RestoreAsRewrite
 unfolding RestoreAsRewrite OneOrNothing
-restore-as-rewrite m k b column map s before after left r rewritten.Done a inside absent p w =
+restore-as-rewrite m k b column map s before after left r rewritten.Done a inside absent few p w =
     let fits : Fits m k b (map .places) s left
-    = record { valid = w .left .0; agrees = record { at = λ t ht here. w .left .1 .at t ht (λ e. true≢false (rw (eq-eqb column t (sym e)) at (not-read k (column ∷ []) (map .places) absent t ht here))) } } in
-    let few = few-absent k (column ∷ []) (map .places) absent in
-    let (passed, together) = gives-it m k b map s before after left r a p (alone m k b (a .shape) (map .places) s left (omega arith) fits) in
-    (passed, λ _. together)
-restore-as-rewrite m k b column map s before after left r (rewritten.Refused f) a inside absent p w = (verdict asked, λ e. absurd (let z : _≡_ {A = ℕ} 0 1 = cc in omega arith))
+    = record { valid = w .left .0; agrees = record { at = λ t ht here. w .left .1 .at t ht (λ e. true≢false (sym here ∙ ap (present (map .places)) e ∙ absent)) } } in
+    (λ _. gives-it m k b map s before after left r a p (alone m k b (a .shape) (map .places) s left few fits), λ _ e. absurd (let z : _≡_ {A = ℕ} 0 1 = cc in omega arith))
+restore-as-rewrite m k b column map s before after left r (rewritten.Refused f) a inside absent few p w =
+    (λ e. absurd (let z : _≡_ {A = ℕ} 0 1 = cc in omega arith), λ only _. one-or-nothing m k b map s before after r a p .contradicted .1 (none only asked))
   where
     asked : Gives (columnRules m k b column s) (refuse f)
     asked = gives-rest (stripeRules m k b (length s)) (columnRules m k b column s) _ (stripe-passed m k b (length s) (a .shape) (a .stripe .whole)) (w .told)
 
-    verdict : Gives (columnRules m k b column s) (refuse f) → verdictOf r ≡ refuse f
-    verdict (inl out) = absurd (omega (arith, out .0))
-    verdict (inr (_, inl (none, e))) =
-        let no : NoneFits m k b (map .places) s
-        = λ v f. none v (f .valid) (record { at = λ t ht ne. f .agrees .at t ht (read k (column ∷ []) (map .places) absent t ht (rw (ne-eqb column t (λ q. ne (sym q))) refl)) }) in
-        ap verdictOf (one-or-nothing m k b map s before after r a p .contradicted .1 no) ∙ sym e
-    verdict (inr (_, inr (_, e))) = absurd (passes-not f (sym e))
+    none : AbsentAre k (column ∷ []) (map .places) → Gives (columnRules m k b column s) (refuse f) → NoneFits m k b (map .places) s
+    none only (inl out) = absurd (omega (arith, out .0))
+    none only (inr (_, inl (never, e))) =
+        λ v f. never v (f .valid) (record { at = λ t ht ne. f .agrees .at t ht (read k (column ∷ []) (map .places) only t ht (rw (ne-eqb column t (λ q. ne (sym q))) refl)) })
+    none only (inr (_, inr (_, e))) = absurd (passes-not f (sym e))

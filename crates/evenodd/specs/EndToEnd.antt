@@ -9,7 +9,8 @@
 --   NothingToRewrite   where locate gives 6, rewrite of any column gives 5: there is nothing to rewrite
 --   NothingElseToRewrite   where locate names a column, rewrite of any other gives 5
 --   RewriteKeepsValid  a valid stripe of which any column is rewritten stays as it is
---   RestoreAsRewrite   restore with one column absent says what rewrite of it says, 5 or a pass, and gives what that leaves
+--   RestoreAsRewrite   where rewrite of a column passes, restore with that column absent, and at most one other, passes too and gives what rewrite leaves;
+--                      where rewrite gives 5, restore with that column absent and no other does
 -- Where exactly two columns of a valid stripe were changed (`TwoChanged`):
 --   SixOrAThird        check says neither intact nor blank and is not refused, and locate gives 6 or names a column that is neither of the two
 --   AnyThirdNamed      it can be any third that is named, whatever the stripe and whichever the two
@@ -20,7 +21,7 @@
 --   OtherTwoAbsent     with two columns absent that are not both of them restore passes, and gives a valid stripe that is not the first
 use mathlib.Core.Path.{_≡_}
 use mathlib.Core.Logic.{_≢_, _↔_, _⊎_}
-use mathlib.Core.Bool.{Bool, true, not, cond}
+use mathlib.Core.Bool.{Bool, true, false, not, cond}
 use mathlib.Core.List.{List, [], _∷_}
 use Prim.Native.Nat.{ℕ, _+_, _-_, _≤_, _<_}
 use lib.ListN.{length}
@@ -48,7 +49,6 @@ use Rattle.evenodd.specs.Checks.{Checks}
 use Rattle.evenodd.specs.Restores.{verdictOf, countOf, firstOf, secondOf, Benched, Restores}
 use Rattle.evenodd.specs.Locates.{Locates}
 use Rattle.evenodd.specs.Rewrites.{Rewrites}
-use Rattle.evenodd.specs.Rewrites as rewrites
 use Rattle.evenodd.specs.Mends.{Mends, Pair}
 use Rattle.evenodd.specs.Shows.{half}
 
@@ -149,8 +149,9 @@ pub record AbsentAre (k : ℕ) (columns : List ℕ) (map : List Bool) : Type 0 w
 
 unfoldable pub RestoreAsRewrite : Type 0
 RestoreAsRewrite = (m k b column : ℕ) (map : Map) (s before after left : List ℕ) (r : Restored) (q : Rewritten) → Asked m k b map s before → column < k + 2
-    → AbsentAre k (column ∷ []) (map .places) → Restores m k b map s before after r → Rewrites m k b column s left q
-    → (verdictOf r ≡ rewrites.verdictOf q) × (q ≡ rewritten.Done → Together m k b (map .places) s after left)
+    → present (map .places) column ≡ false → absences k (map .places) ≤ 2 → Restores m k b map s before after r → Rewrites m k b column s left q
+    → (q ≡ rewritten.Done → (verdictOf r ≡ pass) × Together m k b (map .places) s after left)
+    × (AbsentAre k (column ∷ []) (map .places) → q ≡ rewritten.Refused Contradicted → r ≡ restored.Refused Contradicted)
 
 unfoldable pub SixOrAThird : Type 0
 SixOrAThird = (m k b x y : ℕ) (s wrong : List ℕ) (r : Checked) (q : Located) → Shape m k b → TwoChanged m k b x y s wrong → Checks m k b wrong r → Locates m k b wrong q

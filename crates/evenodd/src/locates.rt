@@ -8,7 +8,7 @@ use refusals::Refusal;
 ghost use mathlib.Core.Path.{_≡_};
 ghost use Rattle.evenodd.specs.Locates.{Locates, foundOf, columnOf};
 
-// What locate answers: the stripe is intact, or blank, or the one column that is wrong; or why not.
+// What locate answers: the stripe is intact, or blank, or the one column in which a valid stripe differs from it; or why not.
 pub enum Located {
     Intact,
     Blank,
@@ -29,7 +29,7 @@ impl Located {
         }
     }
 
-    // The column that is wrong; 129 for none.
+    // The column that is named; 129 for none.
     pub fn column(self) -> usize
         ensures { λ r. ⌜ r ≡ columnOf self ⌝ }
     {
@@ -43,7 +43,7 @@ impl Located {
 }
 
 // Takes a stripe with every column present, and says which one is wrong: none, where the stripe is valid, and then whether it is blank or intact; the one in
-// which alone a valid stripe differs from it. Nothing is written.
+// which alone a valid stripe differs from it. Where two columns are wrong it names neither of them (`SixOrAThird`). Nothing is written.
 pub fn locate(m: usize, k: usize, b: usize, stripe: &[u8]) -> Located
     ensures { λ r. ⌜ Locates m k b (now (stripe .entry)) r ⌝ }
 {
