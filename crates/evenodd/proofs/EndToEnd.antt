@@ -15,7 +15,7 @@ use Rattle.parity.specs.Theorems.{AtMostOne, NeverOne, IntactOrBlank}
 use Rattle.parity.proofs.Bytes.{stripe-ext}
 use Rattle.parity.proofs.Columns.{same-column, column-same, differs-alike}
 use Rattle.parity.proofs.Count.{few-pass}
-use Rattle.parity.proofs.Theorems.{at-most-one, never-one, blank-valid, intact-or-blank}
+use Rattle.parity.proofs.Theorems.{at-most-one, never-one, few-differ, blank-valid, intact-or-blank}
 use Rattle.parity.proofs.TwoWrong.{near-two}
 use Rattle.refusals.specs.declared.Refusal.{Refusal}
 use Rattle.refusals.specs.declared.Refusal.the-variants.{Ambiguous, Contradicted, Unmendable}
@@ -148,11 +148,17 @@ restore-gives-back m k b map fresh s lost before after (restored.Refused r) enc 
     (p .told)))
 
 -- rewrite of a column, where a valid stripe v agrees with all others: it passes, and leaves v
-pub rewrite-leaves : (m k b u : ℕ) → Shape m k b → u < k + 2 → (s v after : List ℕ) → length s ≡ stripeLength m k b → Valid m k b v → AgreesBut m k b u s v → (q : Rewritten) → Rewrites m k b u s after q
+rewrite-leaves : (m k b u : ℕ) → Shape m k b → u < k + 2 → (s v after : List ℕ) → length s ≡ stripeLength m k b → Valid m k b v → AgreesBut m k b u s v → (q : Rewritten) → Rewrites m k b u s after q
     → (q ≡ rewritten.Done) × (after ≡ v)
 rewrite-leaves m k b u h hu s v after whole vv a rewritten.Done p = (refl, one-but m k b u h after v (p .left .0) vv (between m k b u s s after v (agrees-self m k b u s) (p .left .1) a))
 rewrite-leaves m k b u h hu s v after whole vv a (rewritten.Refused f) p =
     absurd (passes-not f (gives-one (rewriteRules m k b u s) _ _ (rewrite-told m k b u h s whole (gives-next (λ out. omega arith) (gives-next (λ none. none v vv a) refl))) (p .told)))
+
+-- rewrite of the column in which alone a valid stripe differs: it passes, and leaves that one
+pub rewrite-named : (m k b u : ℕ) → Shape m k b → (s after : List ℕ) → length s ≡ stripeLength m k b → (o : OneDiffers m k b s u) → (q : Rewritten) → Rewrites m k b u s after q
+    → (q ≡ rewritten.Done) × (after ≡ o .other)
+rewrite-named m k b u h s after whole o q p =
+    rewrite-leaves m k b u h (o .inside) s (o .other) after whole (o .valid) (record { at = λ t ht ne. o .differ .at t ht ∙ ne-eqb u t (λ e. ne (sym e)) }) q p
 
 -- where locate gives 6, no test before it refuses, and its condition holds
 module _ (m k b : ℕ) (s : List ℕ) where
@@ -201,9 +207,20 @@ pub rewrite-keeps-valid : RewriteKeepsValid
 unfolding RewriteKeepsValid
 rewrite-keeps-valid m k b column s after q h v hu p = rewrite-leaves m k b column h hu s s after (v .stripe .whole) v (agrees-self m k b column s) q p
 
+-- locate names the column in which alone a valid stripe differs
+pub locate-names : (m k b u : ℕ) → Shape m k b → (s : List ℕ) → length s ≡ stripeLength m k b → OneDiffers m k b s u → (r : Located) → Locates m k b s r → r ≡ located.Column u
+locate-names m k b u h s whole o located.Intact p = p .found refl .named u .1 o
+locate-names m k b u h s whole o located.Blank p = p .found refl .named u .1 o
+locate-names m k b u h s whole o (located.Column w) p = p .found refl .named u .1 o
+locate-names m k b u h s whole o (located.Refused f) p =
+    absurd (passes-not f (gives-one (locateRules m k b s) _ _
+    (gives-after (stripeRules m k b (length s)) (unmendable m k b s ∷ []) pass (stripe-passed m k b (length s) h whole)
+    (gives-next (λ c. c (o .other) (o .valid) (few-differ m k b u s (o .other) (o .differ))) refl))
+    (p .told)))
+
 pub pair-gives-back : PairGivesBack
 unfolding PairGivesBack differing
-pair-gives-back m k b u fresh s wrong r enc st hu a p = (λ e. record { intact = intact r p e; blank = blank r p e }, λ ne. record { named = named r p ne; rewritten = λ after q w. rewrite-leaves m k b u h hu wrong s after (st .whole) valid a q w })
+pair-gives-back m k b u fresh s wrong r enc st hu a p = (λ e. record { intact = intact r p e; blank = blank r p e }, λ ne. record { named = locate-names m k b u h wrong (st .whole) (differ ne) r p; rewritten = λ after q w. rewrite-leaves m k b u h hu wrong s after (st .whole) valid a q w })
   where
     h : Shape m k b
     h = stripe-given m k b (length fresh) (enc .told) .0
@@ -251,12 +268,6 @@ pair-gives-back m k b u fresh s wrong r enc st hu a p = (λ e. record { intact =
     blank located.Blank p e z = refl
     blank (located.Column v) p e z = p .found refl .blank .1 (rw e z)
     blank (located.Refused f) p e z = absurd (passes f p)
-
-    named : (r : Located) → Locates m k b wrong r → wrong ≢ s → r ≡ located.Column u
-    named located.Intact p ne = p .found refl .named u .1 (differ ne)
-    named located.Blank p ne = p .found refl .named u .1 (differ ne)
-    named (located.Column v) p ne = p .found refl .named u .1 (differ ne)
-    named (located.Refused f) p ne = absurd (passes f p)
 
 -- ---- intact and blank
 
@@ -321,8 +332,7 @@ pair-mends m k b before after located.Blank q p =
 pair-mends m k b before after (located.Column u) q p =
     let h = locate-passed m k b before (p .looked .told) .0 in
     let o = p .looked .found refl .named u .0 refl in
-    let but : AgreesBut m k b u before (o .other) = record { at = λ t ht ne. o .differ .at t ht ∙ ne-eqb u t (λ e. ne (sym e)) } in
-    let (done, e) = rewrite-leaves m k b u h (o .inside) before (o .other) after (locate-passed m k b before (p .looked .told) .1) (o .valid) but q (p .rewrote u refl) in (
+    let (done, e) = rewrite-named m k b u h before after (locate-passed m k b before (p .looked .told) .1) o q (p .rewrote u refl) in (
       record {
         told = p .looked .told;
         valid = λ _. rw e (o .valid);

@@ -7,18 +7,18 @@ use mathlib.Core.List.{List, [], _∷_}
 use Prim.Native.Nat.{ℕ, _+_, _≤_, _<_}
 use native.Mathlib.Omega.{arith}
 use lib.ListN.{length}
-use borrow.Author.Tests.{eq-eqb, ne-eqb}
+use borrow.Author.Tests.{ne-eqb}
 use Rattle.parity.specs.Shape.{member, Shape}
 use Rattle.parity.specs.Stripe.{Valid, Blank, Intact}
-use Rattle.parity.specs.Presence.{present, absences, differs, differing, Agrees, AgreesBut}
+use Rattle.parity.specs.Presence.{present, absences, differs, differing, Agrees}
 use Rattle.parity.specs.Theorems.{AtMostOne, ExactlyOne, IntactOrBlank, TwoChanged, TwoWrong, AnyThird}
 use Rattle.parity.proofs.Columns.{column-same, differs-back, differs-alike}
 use Rattle.parity.proofs.Count.{all-fail, listed-pass}
-use Rattle.parity.proofs.Theorems.{at-most-one, exactly-one, few-differ, intact-or-blank}
+use Rattle.parity.proofs.Theorems.{at-most-one, exactly-one, intact-or-blank}
 use Rattle.parity.proofs.TwoWrong.{first-changed, second-changed, others-same, near-two, two-wrong, any-third}
 use Rattle.refusals.specs.declared.Refusal.the-variants.{Contradicted, Unmendable}
 use Rattle.refusals.specs.Refusals.{pass, refuse, Gives}
-use Rattle.refusals.proofs.Rules.{passes-not, refuse-one, gives-one, gives-next, gives-after, gives-rest}
+use Rattle.refusals.proofs.Rules.{passes-not, refuse-one, gives-one, gives-rest}
 use Rattle.maps.specs.declared.Map.{Map}
 use Rattle.inputs.specs.Rules.{unmendable, stripeRules}
 use Rattle.inputs.proofs.Stripe.{stripe-passed}
@@ -30,12 +30,12 @@ use Rattle.evenodd.specs.declared.restores.Restored.{Restored}
 use Rattle.evenodd.specs.declared.restores.Restored.the-variants as restored
 use Rattle.evenodd.specs.declared.rewrites.Rewritten.the-variants as rewritten
 use Rattle.evenodd.specs.Checks.{Counted, Checks}
-use Rattle.evenodd.specs.Locates.{locateRules, OneDiffers, Locates}
+use Rattle.evenodd.specs.Locates.{Locates}
 use Rattle.evenodd.specs.Rewrites.{columnRules}
 use Rattle.evenodd.specs.Restores.{verdictOf, Restores}
 use Rattle.evenodd.specs.EndToEnd.{Fits, FitsAlone, NoneFits, Together, Asked, OneOrNothing, AbsentAre, RestoreAsRewrite, SixOrAThird, AnyThirdNamed, RewriteSeals, OneOfTwoAbsent, BothAbsent, OtherTwoAbsent}
 use Rattle.evenodd.proofs.Determined.{locate-passed}
-use Rattle.evenodd.proofs.EndToEnd.{one-or-nothing, rewrite-leaves}
+use Rattle.evenodd.proofs.EndToEnd.{one-or-nothing, rewrite-named, locate-names}
 
 -- ---- what check and locate say
 
@@ -73,17 +73,7 @@ pub any-third-named : AnyThirdNamed
 unfolding AnyThirdNamed AnyThird
 any-third-named m k b x y u s h v hx hy hu ne nx ny =
     let (wrong, c, other) = any-third m k b h x y u hx hy hu ne nx ny s v in
-    (wrong, c, λ q p. named wrong c q p (record { inside = hu; other = other .0; valid = other .1; differ = other .2 }))
-  where
-    named : (wrong : List ℕ) → TwoChanged m k b x y s wrong → (q : Located) → Locates m k b wrong q → OneDiffers m k b wrong u → q ≡ located.Column u
-    named wrong c located.Intact p o = p .found refl .named u .1 o
-    named wrong c located.Blank p o = p .found refl .named u .1 o
-    named wrong c (located.Column w) p o = p .found refl .named u .1 o
-    named wrong c (located.Refused f) p o =
-        absurd (passes-not f (gives-one (locateRules m k b wrong) _ _
-        (gives-after (stripeRules m k b (length wrong)) (unmendable m k b wrong ∷ []) pass (stripe-passed m k b (length wrong) h (c .stripe .whole))
-        (gives-next (λ none. none (o .other) (o .valid) (few-differ m k b u wrong (o .other) (o .differ))) refl))
-        (p .told)))
+    (wrong, c, λ q p. locate-names m k b u h wrong (c .stripe .whole) (record { inside = hu; other = other .0; valid = other .1; differ = other .2 }) q p)
 
 -- check calls a valid stripe intact, or blank
 said-of-valid : (m k b : ℕ) → Shape m k b → (s : List ℕ) → Valid m k b s → (r : Checked) → Checks m k b s r → (r ≡ checked.Intact) ⊎ (r ≡ checked.Blank)
@@ -109,8 +99,7 @@ unfolding RewriteSeals TwoWrong
 rewrite-seals m k b x y u s wrong after q c p w =
     let (h, whole) = locate-passed m k b wrong (p .told) in
     let o = p .found refl .named u .0 refl in
-    let but : AgreesBut m k b u wrong (o .other) = record { at = λ t ht ne. o .differ .at t ht ∙ ne-eqb u t (λ e. ne (sym e)) } in
-    let (done, e) = rewrite-leaves m k b u h (o .inside) wrong (o .other) after whole (o .valid) but q w in
+    let (done, e) = rewrite-named m k b u h wrong after whole o q w in
     let (nx, ny, differ, three) = two-wrong m k b h x y s wrong c .1 u (o .other) (o .inside) (o .valid) (o .differ) in (
       done,
       rw e (o .valid),
