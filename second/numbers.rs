@@ -128,8 +128,8 @@ fn two_wrong() -> Vec<Number> {
         // only D has the new byte: it differs from C1 in that alone.
         ask("missed-write", format!("check 3 3 1 {MISSED_WRITE}"), s("0 0 1 3")),
         ask("missed-write", format!("locate 3 3 1 {MISSED_WRITE}"), s("0 4 4")),
-        ask("missed-write", format!("rewrite 3 3 1 {MISSED_WRITE} 4"), format!("0 {C1}")),
         restored("missed-write,1,3", MISSED_WRITE, &[1, 3], "0 2 1 3 0508142a"),
+        ask("missed-write", format!("rewrite 3 3 1 {MISSED_WRITE} 4"), format!("0 {C1}")),
     ]
 }
 

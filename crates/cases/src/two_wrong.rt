@@ -72,23 +72,13 @@ fn not_named_without(out: &mut [u8], at: usize) -> usize {
     without_line(out, second, b"two-wrong-6,0,1", &stripe, 0, 1)
 }
 
-// C1 after a write of 5 for 4 in column 1, which changes a cell of H and one of D, and which columns 1 and 3 missed. Column 4 is named, and rewritten: that leaves C1.
+// C1 after a write of 5 for 4 in column 1, which changes a cell of H and one of D, and which columns 1 and 3 missed. Without these two the new stripe is restored; column
+// 4, which is named, rewritten leaves C1.
 fn missed_write(out: &mut [u8], at: usize) -> usize {
     let mut stripe = [1u8, 2, 4, 8, 16, 32, 21, 42, 57, 31];
-    let next = stripe_lines(out, at, b"missed-write", &stripe);
-    rewrite_line(out, next, b"missed-write", [3, 3, 1], &mut stripe, 4)
-}
-
-// That stripe restored without the columns that missed it.
-fn missed_write_without(out: &mut [u8], at: usize) -> usize {
-    let stripe = [1u8, 2, 4, 8, 16, 32, 21, 42, 57, 31];
-    without_line(out, at, b"missed-write,1,3", &stripe, 1, 3)
-}
-
-// Both of these.
-fn missed_write_lines(out: &mut [u8], at: usize) -> usize {
-    let next = missed_write(out, at);
-    missed_write_without(out, next)
+    let first = stripe_lines(out, at, b"missed-write", &stripe);
+    let second = without_line(out, first, b"missed-write,1,3", &stripe, 1, 3);
+    rewrite_line(out, second, b"missed-write", [3, 3, 1], &mut stripe, 4)
 }
 
 // All of them.
@@ -100,5 +90,5 @@ pub fn two_wrong_lines(out: &mut [u8], at: usize) -> usize {
     let e = without_another(out, d);
     let f = not_named(out, e);
     let g = not_named_without(out, f);
-    missed_write_lines(out, g)
+    missed_write(out, g)
 }

@@ -7,13 +7,13 @@ use mathlib.Core.List.{List, [], _∷_}
 use Prim.Native.Nat.{ℕ, _+_, _≤_, _<_}
 use native.Mathlib.Omega.{arith}
 use lib.ListN.{length}
-use borrow.Author.Tests.{ne-eqb}
+use borrow.Author.Tests.{eq-eqb, ne-eqb}
 use Rattle.parity.specs.Shape.{member, Shape}
 use Rattle.parity.specs.Stripe.{Valid, Blank, Intact}
-use Rattle.parity.specs.Presence.{present, absences, differs, differing, Agrees}
+use Rattle.parity.specs.Presence.{present, absences, differs, Agrees}
 use Rattle.parity.specs.Theorems.{AtMostOne, ExactlyOne, IntactOrBlank, TwoChanged, TwoWrong, AnyThird}
-use Rattle.parity.proofs.Columns.{column-same, differs-back, differs-alike}
-use Rattle.parity.proofs.Count.{all-fail, listed-pass}
+use Rattle.parity.proofs.Columns.{differs-back, differs-alike, differs-apart}
+use Rattle.parity.proofs.Count.{listed-pass}
 use Rattle.parity.proofs.Theorems.{at-most-one, exactly-one, intact-or-blank}
 use Rattle.parity.proofs.TwoWrong.{first-changed, second-changed, others-same, near-two, two-wrong, any-third}
 use Rattle.refusals.specs.declared.Refusal.the-variants.{Contradicted, Unmendable}
@@ -89,11 +89,6 @@ said-of-valid m k b h s v r c = go r c
     go (checked.Broken rows diagonals) c = said (c .counted refl)
     go (checked.Refused f) c = absurd (passes-not f (gives-one (stripeRules m k b (length s)) _ _ (stripe-passed m k b (length s) h (v .stripe .whole)) (c .told)))
 
--- a stripe differs from itself in no column
-none-differ : (m k b : ℕ) (s : List ℕ) → differing m k b s s ≡ 0
-unfolding differing
-none-differ m k b s = all-fail (k + 2) (differs m b s s) (λ t ht. column-same m b s s t (λ l i hl hi. refl))
-
 pub rewrite-seals : RewriteSeals
 unfolding RewriteSeals TwoWrong
 rewrite-seals m k b x y u s wrong after q c p w =
@@ -105,7 +100,7 @@ rewrite-seals m k b x y u s wrong after q c p w =
       rw e (o .valid),
       rw e differ,
       rw e three,
-      λ same. let z : differing m k b s s ≡ 3 = ap (differing m k b s) (sym same ∙ e) ∙ three in omega (arith, none-differ m k b s),
+      λ same. differs-apart m b s (o .other) x (differ .at x (c .first) ∙ rw (eq-eqb x x refl) refl) (sym same ∙ e),
       said-of-valid m k b h after (rw e (o .valid)),
     )
 

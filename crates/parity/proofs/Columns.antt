@@ -3,11 +3,12 @@
 --   places-same                columns with the same bytes, place by place, do not differ
 --   differs-back               s differs from v where v does from s
 --   differs-alike              a stripe with the same column differs where the first does
+--   differs-apart              stripes that differ in a column are two
 --   Cover, cover               with at most two columns absent: two columns, of which no other is absent. Where fewer are absent, H or D fills up.
 --   agrees-same                present columns that agree have the same bytes
 use mathlib.Core.Path.{_≡_, refl, sym, ap, _∙_}
 use mathlib.Core.Logic.{_≢_, inl, inr, by-cases}
-use mathlib.Core.Bool.{Bool, true, false, not}
+use mathlib.Core.Bool.{Bool, true, false, not, true≢false}
 use mathlib.Core.List.{List}
 use Prim.Native.Nat.{ℕ, _+_, _-_, _*_, _≤_, _<_}
 use native.Mathlib.Nat.{eq-or-lt-of-le}
@@ -52,6 +53,9 @@ pub differs-alike : (m b : ℕ) (s w v : List ℕ) (t : ℕ) → differs m b s w
 unfolding differs
 differs-alike m b s w v t e =
     some-cong (m - 1) (λ i hi. some-cong b (λ l hl. ap (λ x. not (eqb x (byte m b v l i t))) (same-column m b s w t e l i hl hi)))
+
+pub differs-apart : (m b : ℕ) (s v : List ℕ) (t : ℕ) → differs m b s v t ≡ true → s ≢ v
+differs-apart m b s v t d e = true≢false (sym d ∙ ap (λ q. differs m b s q t) (sym e) ∙ column-same m b s s t (λ l i hl hi. refl))
 
 pub other-way : (x y : ℕ) → x ≢ y → (x < y → ⊥) → y < x
 other-way x y ne l = elim (decLt y x) [ yes h ↦ h | no h ↦ absurd (ne (omega arith)) ]

@@ -16,7 +16,7 @@ use Rattle.parity.specs.Presence.{differs, differing, DifferIn}
 use Rattle.parity.specs.Theorems.{Distance, TwoChanged, TwoWrong, AnyThird}
 use Rattle.parity.proofs.Bytes.{build, build-byte, build-stripe}
 use Rattle.parity.proofs.Count.{listed-pass}
-use Rattle.parity.proofs.Columns.{same-column, column-same, differs-back, differs-alike, other-way}
+use Rattle.parity.proofs.Columns.{same-column, column-same, differs-back, differs-alike, differs-apart, other-way}
 use Rattle.parity.proofs.Stripes.{byte-lt, stripe-second}
 use Rattle.parity.proofs.Theorems.{frame, served, near, distance}
 
@@ -58,9 +58,7 @@ module _ (m k b : ℕ) (h : Shape m k b) where
 
   module _ (x y : ℕ) (s wrong : List ℕ) (c : TwoChanged m k b x y s wrong) where
     not-valid : Valid m k b wrong → ⊥
-    not-valid vw =
-        let one = near-two s wrong (c .valid) vw x y (others-same m k b x y s wrong c) in
-        true≢false (sym (first-changed m k b x y s wrong c) ∙ ap (λ q. differs m b s q x) (sym one) ∙ column-same m b s s x (λ l i hl hi. refl))
+    not-valid vw = differs-apart m b s wrong x (first-changed m k b x y s wrong c) (near-two s wrong (c .valid) vw x y (others-same m k b x y s wrong c))
 
     module _ (u : ℕ) (v : List ℕ) (hu : u < k + 2) (vv : Valid m k b v) (e : DifferIn m k b (eqb u) wrong v) where
       not-x : u ≢ x
@@ -89,8 +87,7 @@ module _ (m k b : ℕ) (h : Shape m k b) where
       unfolding differing Distance
       three =
           let most = listed-pass (k + 2) (x ∷ y ∷ u ∷ []) (differs m b s v) (λ t ht other. all-three .at t ht ∙ other) in
-          let least = distance m k b h s v (c .valid) vv (λ q.
-          true≢false (rw (eq-eqb x x refl) at (sym (all-three .at x (c .first)) ∙ ap (λ r. differs m b s r x) (sym q) ∙ column-same m b s s x (λ l i hl hi. refl)))) in
+          let least = distance m k b h s v (c .valid) vv (differs-apart m b s v x (all-three .at x (c .first) ∙ rw (eq-eqb x x refl) refl)) in
           omega (arith, most, least)
 
 pub two-wrong : TwoWrong
@@ -140,7 +137,7 @@ module _ (m k b : ℕ) (h : Shape m k b) (s : List ℕ) (vs : Valid m k b s) whe
         go false e =
             let alike : s ≡ a .v
             = near-two m k b h s (a .v) vs (a .valid) other u (λ t ht po pu. by-cases (ℕ-discrete t z) (λ q. ap (differs m b s (a .v)) q ∙ e) (λ q. same t ht q po pu)) in
-            absurd (true≢false (sym (a .there) ∙ ap (λ q. differs m b s q u) (sym alike) ∙ column-same m b s s u (λ l i hl hi. refl)))
+            absurd (differs-apart m b s (a .v) u (a .there) alike)
 
     listed : (t : ℕ) → t < k + 2 → u ≢ t → differs m b s (a .v) t ≡ member t (x ∷ y ∷ [])
     listed t ht q = by-cases (ℕ-discrete x t)
