@@ -17,8 +17,10 @@ pub const BAD_NUMBER: u8 = 7;
 pub const BAD_IMAGE: u8 = 8;
 pub const STRAY_PLACE: u8 = 9;
 pub const INPUT_TOO_LONG: u8 = 10;
+pub const BAD_ROW: u8 = 11;
 pub const WRONG_K: u8 = 12;
 pub const WRONG_B: u8 = 13;
+pub const BAD_CELL: u8 = 14;
 pub const LYING_MAP: u8 = 17;
 
 // What a check or a locate found.
@@ -55,10 +57,12 @@ impl Shape {
     }
     /// Cells are numbered through the stripe, column after column.
     fn cell_number(self, row: usize, column: usize) -> usize { column * (self.m - 1) + row }
-    fn cell(self, stripe: &[u8], row: usize, column: usize) -> &[u8] {
+    /// The bytes of a cell within a stripe.
+    pub fn cell_bytes(self, row: usize, column: usize) -> Range<usize> {
         let start = self.cell_number(row, column) * self.b;
-        &stripe[start..start + self.b]
+        start..start + self.b
     }
+    fn cell(self, stripe: &[u8], row: usize, column: usize) -> &[u8] { &stripe[self.cell_bytes(row, column)] }
     /// Whether row and column of the paper's data array are really there and not zero by rule.
     fn real(self, row: usize, column: usize) -> bool { row < self.m - 1 && column < self.k }
 }
@@ -299,25 +303,36 @@ pub fn main_sum(shape: Shape, stripe: &[u8]) -> Vec<u8> {
     sum(shape, (1..m).map(|t| data_cell(shape, stripe, m - 1 - t, t)))
 }
 
-/// Counts broken equations as they are written down, without the bit matrix. Intact is a stripe with both counts zero and
-/// some byte that is not.
+/// What the data gives for the cells of H and then of D, by the equations as they are written down, without the bit matrix.
+fn parity_on_paper(shape: Shape, stripe: &[u8]) -> Vec<u8> {
+    let m = shape.m;
+    let s = main_sum(shape, stripe);
+    let row = |i: usize| sum(shape, (0..m).map(|t| data_cell(shape, stripe, i, t)));
+    let diagonal = |i: usize| {
+        let mut right = sum(shape, (0..m).map(|t| data_cell(shape, stripe, (i + m - t) % m, t)));
+        add_bytes(&mut right, &s);
+        right
+    };
+    (0..m - 1).flat_map(row).chain((0..m - 1).flat_map(diagonal)).collect()
+}
+
+/// By how much each equation breaks, of H and then of D: the cell that stands there and the one that the data gives, added up.
+fn amounts(shape: Shape, stripe: &[u8]) -> Vec<u8> {
+    let mut amounts = parity_on_paper(shape, stripe);
+    add_bytes(&mut amounts, &stripe[shape.k * shape.column_length()..]);
+    amounts
+}
+
+/// Counts the equations that break by any amount. Intact is a stripe with both counts zero and some byte that is not.
 pub fn check(shape: Shape, stripe: &[u8]) -> Checked {
     let number = judge_plain(shape, stripe);
     if number != FINE {
         return Checked { number, rows: 0, diagonals: 0, found: FOUND_NOTHING };
     }
-    let Shape { m, k, .. } = shape;
-    let s = main_sum(shape, stripe);
-    let row_breaks = |i: &usize| {
-        let right = sum(shape, (0..m).map(|t| data_cell(shape, stripe, *i, t)));
-        right != shape.cell(stripe, *i, k)
-    };
-    let diagonal_breaks = |i: &usize| {
-        let mut right = sum(shape, (0..m).map(|t| data_cell(shape, stripe, (*i + m - t) % m, t)));
-        add_bytes(&mut right, &s);
-        right != shape.cell(stripe, *i, k + 1)
-    };
-    let (rows, diagonals) = ((0..m - 1).filter(row_breaks).count(), (0..m - 1).filter(diagonal_breaks).count());
+    let amounts = amounts(shape, stripe);
+    let broken = |part: &[u8]| part.chunks(shape.b).filter(|amount| !is_zero(amount)).count();
+    let (of_h, of_d) = amounts.split_at(shape.column_length());
+    let (rows, diagonals) = (broken(of_h), broken(of_d));
     let found = match (rows, diagonals) {
         _ if is_blank(stripe) => FOUND_BLANK,
         (0, 0) => FOUND_INTACT,
@@ -383,6 +398,24 @@ pub fn rewrite(shape: Shape, stripe: &mut [u8], column: usize) -> Rewritten {
             Rewritten { number }
         }
     }
+}
+
+pub struct Changed { pub number: u8 }
+
+/// A data cell gets new bytes, and H and D become what the edited data gives, each cell with the amount added by which its
+/// equation broke before.
+pub fn change(shape: Shape, stripe: &mut [u8], column: usize, row: usize, cell: &[u8]) -> Changed {
+    let number = judge_plain(shape, stripe);
+    if number != FINE { return Changed { number }; }
+    if column >= shape.k { return Changed { number: BAD_NUMBER }; }
+    if row >= shape.m - 1 { return Changed { number: BAD_ROW }; }
+    if cell.len() != shape.b { return Changed { number: BAD_CELL }; }
+    let before = amounts(shape, stripe);
+    stripe[shape.cell_bytes(row, column)].copy_from_slice(cell);
+    let mut parity = parity_on_paper(shape, stripe);
+    add_bytes(&mut parity, &before);
+    stripe[shape.k * shape.column_length()..].copy_from_slice(&parity);
+    Changed { number }
 }
 
 pub struct Shown { pub number: u8, pub from_bench: bool, pub start: usize, pub length: usize }

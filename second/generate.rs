@@ -44,6 +44,8 @@ const LARGE_REWRITES: [(usize, usize, usize); 4] = [(11, 9, 130), (19, 17, 257),
 const WIDE: (usize, usize, usize) = (37, 33, 1400);
 /// Where stripes are zero or nearly so: as many columns as there can be, and long cells, up to data of more than 256 KiB.
 const FAINT: [(usize, usize, usize); 4] = [(127, 127, 1), (5, 5, 4096), (17, 16, 512), (17, 17, 1024)];
+/// Where cells are changed: as many columns as there can be, with short cells, and long cells.
+const LARGE_CHANGES: [(usize, usize, usize); 5] = [(127, 127, 1), (127, 127, 9), (17, 16, 512), (5, 4, 4095), (5, 5, 4096)];
 pub const BAD_M: [usize; 36] = [
     0, 1, 2, 4, 6, 8, 9, 15, 21, 25, 27, 33, 35, 49, 51, 57, 77, 87, 91, 93, 119, 121, 123, 125, 126, 128, 129, 131,
     137, 256, 257, 259, 65_539, (1 << 32) + 3, MAX - 1, MAX,
@@ -69,6 +71,7 @@ const SHAPE_ORDER: [u8; 3] = [1, 12, 13];
 pub const PLAIN_ORDER: [u8; 4] = [1, 12, 13, 2];
 pub const RESTORE_ORDER: [u8; 8] = [1, 12, 13, 2, 3, 9, 4, 5];
 pub const REWRITE_ORDER: [u8; 6] = [1, 12, 13, 2, 7, 5];
+pub const CHANGE_ORDER: [u8; 7] = [1, 12, 13, 2, 7, 11, 14];
 pub const SHOW_ORDER: [u8; 8] = [1, 12, 13, 2, 3, 9, 7, 4];
 /// How an image's first eight bytes are judged.
 pub const HEADER_ORDER: [u8; 4] = [8, 1, 12, 13];
@@ -100,6 +103,24 @@ pub fn extent(shape: Shape) -> &'static str {
         _ => EXTENTS[0],
     }
 }
+
+/// Of which stripes a cell is changed.
+pub const CHANGED_STRIPES: [&str; 3] = ["valid", "broken", "zero"];
+/// Which cell it is: one of the first or of the last data column, on the diagonal of S, or where row and column add up to m or
+/// more.
+pub const CHANGED_CELLS: [&str; 4] = ["first", "last", "on S", "wrapping"];
+/// What is put there: what it holds, zeros, it with one byte changed, or with all of them changed.
+pub const NEW_CELLS: [&str; 4] = ["same", "zeros", "one byte", "all bytes"];
+/// The ways to make a fault of a change: the columns, the rows and the lengths of a cell that are refused.
+pub const CHANGE_WAYS: [(u8, &[&str]); 4] = [
+    (2, &["length"]),
+    (7, &["k", "k+1", "k+2", "between", "max"]),
+    (11, &["m-1", "m", "between", "max"]),
+    (14, &["0", "b-1", "b+1", "a column"]),
+];
+
+/// Columns and rows between are one of these above a right one, or 129.
+pub const FAR: [usize; 3] = [1 << 8, 1 << 32, 1 << 63];
 
 /// What of a stripe is not zero.
 #[derive(Clone, Copy, PartialEq)]
@@ -134,6 +155,25 @@ impl Damage {
 }
 
 const BLANK: Damage = Damage::Faint(Faint::Nothing);
+
+/// How a stripe is broken before a cell of it is changed.
+#[derive(Clone, Copy)]
+#[rustfmt::skip]
+enum Break {
+    // One byte: of the cell itself, of the cell of H or of a cell of D that depend on it, or of another one of H.
+    Itself, OwnRow, OwnDiagonal, Elsewhere,
+    Any(Damage),
+}
+
+#[rustfmt::skip]
+const BREAKS: [Break; 11] = {
+    use Break::*;
+    [
+        Itself, OwnRow, OwnDiagonal, Elsewhere,
+        Any(Damage::OneColumn), Any(Damage::TwoColumns), Any(Damage::Lanes), Any(Damage::Imaginary), Any(Damage::Garbage),
+        Any(Damage::H), Any(Damage::D),
+    ]
+};
 
 #[derive(Clone, Copy, PartialEq)]
 #[rustfmt::skip]
@@ -271,6 +311,57 @@ fn gap_recipes() -> Vec<Recipe> { (0..28).map(|_| Recipe::Gaps).collect() }
 /// About 6 of 100 requests.
 fn length_recipes() -> Vec<Recipe> { (0..44).map(|_| Recipe::Lengths).collect() }
 
+/// A change of one cell: its faults and, where they can be made in several ways, in which; a kind of shapes; and which stripe,
+/// which cell and what is put there, as far as no fault settles it. Ways to break a stripe and kinds of rows come in turn.
+struct Change {
+    faults: Vec<u8>,
+    way: usize,
+    shape: &'static str,
+    stripe: &'static str,
+    cell: &'static str,
+    new: &'static str,
+    turn: usize,
+}
+
+/// About 4 of 100 requests. All kinds of stripes, cells and new bytes are met with each other, and each with every extent; then
+/// come the shortest and the longest cells, as many columns as there can be and as few, every fault alone in every way, and
+/// every two.
+fn change_recipes() -> Vec<Change> {
+    let mut list: Vec<Change> = Vec::new();
+    for (x, stripe) in CHANGED_STRIPES.into_iter().enumerate() {
+        for (y, cell) in CHANGED_CELLS.into_iter().enumerate() {
+            for (z, new) in NEW_CELLS.into_iter().enumerate() {
+                let (shape, turn) = (EXTENTS[(x + y + z) % 3], 4 * y + z);
+                list.push(Change { faults: vec![], way: 0, shape, stripe, cell, new, turn });
+            }
+        }
+    }
+    let mut add = |faults: &[u8], way: usize, shape: &'static str, cell: &'static str| {
+        let turn = list.len();
+        let (stripe, new) = (CHANGED_STRIPES[(turn + turn / 3) % 3], "all bytes");
+        list.push(Change { faults: faults.to_vec(), way, shape, stripe, cell, new, turn });
+    };
+    for shape in ["b=1", "b=4096", "k=m"] {
+        CHANGED_CELLS.into_iter().for_each(|cell| add(&[], 0, shape, cell));
+    }
+    add(&[], 0, "k=1", "first");
+    // So often that every wrong b is met, and k = 0, k = m+1, one up to 127 and the largest.
+    for (number, times) in [(1, 4), (12, 10), (13, 8)] {
+        (0..times).for_each(|_| add(&[number], 0, "short", "any"));
+    }
+    for (number, ways) in CHANGE_WAYS {
+        for way in 0..ways.len() {
+            EXTENTS.into_iter().for_each(|shape| add(&[number], way, shape, "any"));
+        }
+        add(&[number], ways.len().saturating_sub(2), "b=1", "any");
+        add(&[number], 2, "b=4096", "any");
+    }
+    for (n, faults) in together(&CHANGE_ORDER).into_iter().enumerate() {
+        add(&faults, n, EXTENTS[n % 3], "any");
+    }
+    list
+}
+
 fn image_recipes() -> Vec<Recipe> {
     let mut list = vec![Recipe::Contents(vec![], "far"), Recipe::Read(vec![], "any", false)];
     for pattern in PATTERNS.into_iter().chain(["all", "all"]) {
@@ -296,6 +387,13 @@ pub fn fit(shape: Shape, stripe: &mut [u8], columns: [usize; 2]) {
     for (half, column) in [done.first, done.second].into_iter().enumerate() {
         stripe[shape.column(column)].copy_from_slice(&bench[shape.column(half)]);
     }
+}
+
+/// Gives a stripe the length that a bad shape has, where its products are small.
+fn follow(shape: Shape, stripe: &mut Vec<u8>) {
+    let length = shape.k.wrapping_add(2).wrapping_mul(shape.m.wrapping_sub(1).wrapping_mul(shape.b));
+    let filler = if is_blank(stripe) { 0 } else { 7 };
+    if length <= 30_000 { stripe.resize(length, filler); }
 }
 
 fn check_and_locate(shape: Shape, stripe: Vec<u8>) -> [Request; 2] {
@@ -336,17 +434,30 @@ impl Maker {
         }
     }
 
+    /// One of 25 is a change of a cell. These are made from a seed of their own, so that the others stay what they are.
     pub fn cases(mut self, count: usize) -> impl Iterator<Item = Case> {
+        let mut changes = Maker::new(!self.random.0).changes();
         let first = [code_recipes(), two_wrong_recipes(), gap_recipes(), length_recipes()];
         let second = [code_recipes(), two_wrong_recipes(), faint_recipes(), image_recipes()];
         let recipes: Vec<Recipe> = first.into_iter().chain(second).flatten().collect();
-        (0..count).map(move |n| self.make(&recipes[n % recipes.len()]))
+        (0..count).map(move |n| match n % 25 {
+            24 => changes.next().expect("they do not end"),
+            _ => self.make(&recipes[(n - n / 25) % recipes.len()]),
+        })
+    }
+
+    /// Changes of cells, without end. Of the wrong k those that are near to a right one come early.
+    pub fn changes(mut self) -> impl Iterator<Item = Case> {
+        self.bad_turns[1] = BAD_K.len() - 2;
+        let recipes = change_recipes();
+        (0..).map(move |n| self.change(&recipes[n % recipes.len()]))
     }
 
     /// At each of several small shapes, of a valid stripe and with each column wrong: a check, a locate, a rewrite of
     /// every column, and every set of at most two absent columns; and checks and locates of the stripe that is all zero, and
     /// of it with one byte set; and requests about valid stripes with every two columns wrong. Then a few requests at large
-    /// shapes, the gaps of a few maps for every k from 0 to 130, and lengths for every m from 0 to 140.
+    /// shapes, the gaps of a few maps for every k from 0 to 130, and lengths for every m from 0 to 140. Last are changes of
+    /// every cell at the small shapes, and of a few at large ones.
     pub fn every_pattern(mut self) -> Vec<Request> {
         let mut requests = Vec::new();
         for (m, k, b) in SMALL {
@@ -395,6 +506,34 @@ impl Maker {
         for m in 0..=140 {
             for k in [0, 1, m, m + 1] {
                 requests.extend(EVERY_LENGTH_B.map(|b| Request::Lengths(Shape { m, k, b })));
+            }
+        }
+        for (m, k, b) in SMALL {
+            let cells = (0..k).flat_map(|column| (0..m - 1).map(move |row| (column, row))).collect();
+            requests.extend(self.changes_of(Shape { m, k, b }, cells, true));
+        }
+        for (m, k, b) in LARGE_CHANGES {
+            // Corners of the data, cells on the diagonal of S at both its ends and between, and the first and the last that wrap.
+            let (last, middle) = (k - 1, k / 2);
+            let corners = [(0, 0), (0, m - 2), (last, m - 2)];
+            let on_s = [(1, m - 2), (middle, m - 1 - middle), (last, m - 1 - last)];
+            let wrapping = [(2, m - 2), (last, m - last)];
+            let cells = corners.into_iter().chain(on_s).chain(wrapping).collect();
+            requests.extend(self.changes_of(Shape { m, k, b }, cells, false));
+        }
+        requests
+    }
+
+    /// Of each cell a change in a valid stripe and in one that is broken, or of the two by turns. Ways to break come in turn.
+    fn changes_of(&mut self, shape: Shape, cells: Vec<(usize, usize)>, both: bool) -> Vec<Request> {
+        let mut requests = Vec::new();
+        let start = self.random.below(BREAKS.len());
+        for (n, (column, row)) in cells.into_iter().enumerate() {
+            let kinds = if both { 0..2 } else { n % 2..n % 2 + 1 };
+            for kind in &["valid", "broken"][kinds] {
+                let stripe = self.stripe_to_change(shape, kind, column, row, start + n);
+                let new = self.random.bytes(shape.b);
+                requests.push(Request::Change(shape, stripe, column, row, new));
             }
         }
         requests
@@ -928,13 +1067,123 @@ impl Maker {
         }
         // Where a bad shape still has small products, the lengths follow it.
         let column = shape.m.wrapping_sub(1).wrapping_mul(shape.b);
-        let length = shape.k.wrapping_add(2).wrapping_mul(column);
-        let filler = if is_blank(&stripe) { 0 } else { 7 };
-        if shape != good && length <= 30_000 { stripe.resize(length, filler); }
+        if shape != good { follow(shape, &mut stripe); }
         if shape != good && column <= 10_000 { bench.resize(2 * column, 7); }
         if has(2) { self.bad_length(&mut stripe, good.column_length()); }
         if has(3) { self.bad_length(&mut bench, good.column_length()); }
         Scene { shape, map, stripe, bench }
+    }
+
+    /// A shape of this kind that has a cell of this kind.
+    fn shape_to_change(&mut self, kind: &str, cell: &str) -> Shape {
+        loop {
+            // Of the drawn shapes with the longest cells none has three data columns.
+            let s = match kind {
+                "b=4096" => Shape { m: 3, k: 1 + self.random.below(3), b: 4096 },
+                _ => self.shape(),
+            };
+            let is_kind = match kind {
+                "b=1" => s.b == 1,
+                "b=4096" => true,
+                "k=1" => s.k == 1,
+                "k=m" => s.k == s.m,
+                // So short that most wrong numbers leave a stripe that can be made.
+                "short" => s.column_length() <= 100,
+                _ => extent(s) == kind && s.b > 1,
+            };
+            let has_cell = match cell {
+                "on S" => s.k > 1,
+                "wrapping" => s.k > 2,
+                _ => true,
+            };
+            if is_kind && has_cell { return s; }
+        }
+    }
+
+    /// The column and the row of a cell of this kind.
+    fn cell_to_change(&mut self, shape: Shape, kind: &str, turn: usize) -> (usize, usize) {
+        let Shape { m, k, .. } = shape;
+        let row = match turn % 3 {
+            0 => 0,
+            1 => m - 2,
+            _ => self.random.below(m - 1),
+        };
+        match kind {
+            "on S" => {
+                let column = 1 + self.random.below(k - 1);
+                (column, m - 1 - column)
+            }
+            "wrapping" => {
+                let column = 2 + self.random.below(k - 2);
+                (column, m - column + self.random.below(column - 1))
+            }
+            "first" => (0, row),
+            "last" => (k - 1, row),
+            _ => (self.random.below(k), row),
+        }
+    }
+
+    /// A valid stripe with some byte that is not zero; or such a one, broken; or zeros.
+    fn stripe_to_change(&mut self, shape: Shape, kind: &str, column: usize, row: usize, turn: usize) -> Vec<u8> {
+        let Shape { m, k, b } = shape;
+        let mut stripe = vec![0; shape.stripe_length()];
+        if kind == "zero" { return stripe; }
+        while is_blank(&stripe) { stripe = self.valid_stripe(shape); }
+        if kind == "valid" { return stripe; }
+        // On the diagonal of S all cells of D depend on it.
+        let diagonal = if column + row == m - 1 { self.random.below(m - 1) } else { (column + row) % m };
+        let other = (row + 1 + self.random.below(m - 2)) % (m - 1);
+        let place = match BREAKS[turn % BREAKS.len()] {
+            Break::Itself => shape.cell_bytes(row, column),
+            Break::OwnRow => shape.cell_bytes(row, k),
+            Break::OwnDiagonal => shape.cell_bytes(diagonal, k + 1),
+            Break::Elsewhere => shape.cell_bytes(other, k),
+            Break::Any(damage) => {
+                let damage = if damage.can_be_at(shape) { damage } else { Damage::OneColumn };
+                self.damage(shape, &mut stripe, damage);
+                return stripe;
+            }
+        };
+        stripe[place.start + self.random.below(b)] ^= self.random.nonzero();
+        stripe
+    }
+
+    /// A change that bears exactly the faults named. But as in a scene others may come along with a wrong number of the shape:
+    /// for m = 0 and 1 no row is right, for k = 0 no column, and cells that are too long are not made.
+    fn change(&mut self, recipe: &Change) -> Case {
+        let Change { ref faults, way, turn, .. } = *recipe;
+        let has = |number: u8| faults.contains(&number);
+        let good = self.shape_to_change(recipe.shape, recipe.cell);
+        let (mut column, mut row) = self.cell_to_change(good, recipe.cell, turn);
+        let mut stripe = self.stripe_to_change(good, recipe.stripe, column, row, turn);
+        let mut new = stripe[good.cell_bytes(row, column)].to_vec();
+        match recipe.new {
+            "zeros" => new.fill(0),
+            "one byte" => new[self.random.below(good.b)] ^= self.random.nonzero(),
+            "all bytes" => new.iter_mut().for_each(|byte| *byte ^= self.random.nonzero()),
+            _ => {}
+        }
+        let shape = self.spoil(good, faults, faults.len() == 1, |s| !has(7) || s.k < MAX - 2);
+        let Shape { m, k, b } = shape;
+        let rows = m.saturating_sub(1);
+        if shape != good {
+            follow(shape, &mut stripe);
+            column = column.min(k.saturating_sub(1));
+            row = row.min(rows.saturating_sub(1));
+            if b <= 10_000 { new.resize(b, 7); }
+        }
+        if has(2) { self.bad_length(&mut stripe, good.column_length()); }
+        // Cut to fewer bits, these would be the right ones. With b=1 it is the number that stands for no column.
+        let far = |right: usize| if recipe.shape == "b=1" { 129 } else { FAR[turn % 3] + right };
+        if has(7) { column = [k, k + 1, k + 2, far(column).max(k + 3), MAX][way % 5]; }
+        if has(11) { row = [rows, m, far(row).max(m.saturating_add(1)), MAX][way % 4]; }
+        if has(14) {
+            let right = new.len();
+            let length = [0, right.saturating_sub(1), right + 1, good.column_length()][way % 4];
+            new.resize(if length == b { right + 1 } else { length }, 7);
+        }
+        let expected = CHANGE_ORDER.into_iter().find(|&number| has(number)).unwrap_or(FINE);
+        Case { request: Request::Change(shape, stripe, column, row, new), expected: Some(expected) }
     }
 
     fn make(&mut self, recipe: &Recipe) -> Case {

@@ -116,6 +116,12 @@ static void answer(char **f)
         printf("%u ", oarwillow_rewrite(m, k, b, s.bytes, s.length, number(f[5])));
         print_bytes(s);
         done(s);
+    } else if (strcmp(f[0], "change") == 0) {
+        Buffer s = buffer(f[4]), cell = buffer(f[7]);
+        printf("%u ", oarwillow_change(m, k, b, s.bytes, s.length, number(f[5]), number(f[6]), cell.bytes, cell.length));
+        print_bytes(s);
+        done(s);
+        done(cell);
     } else if (strcmp(f[0], "show") == 0) {
         Buffer s = buffer(f[5]), w = buffer(f[6]);
         size_t from = 77, start = 77, length = 77;

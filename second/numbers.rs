@@ -1,5 +1,5 @@
 //! The numbers of the document, as requests with the answers the document gives, and more about stripes near to blank, stripes
-//! with two wrong columns, wrong shapes, lengths and gaps.
+//! with two wrong columns, changed cells, wrong shapes, lengths and gaps.
 
 use crate::code::*;
 use crate::image::shelf;
@@ -24,6 +24,9 @@ const TWO_WRONG_SEALED: &str = "000204091121152a391e";
 pub const TWO_WRONG_6: &str = "000206081020152a391e";
 /// C1 after a write of 05 for a(0,1) that columns 1 and 3 missed.
 const MISSED_WRITE: &str = "010204081020152a391f";
+/// C1 with ff for a(1,1), and C8 with 04 for a(0,1), as a change leaves them.
+const CHANGED_1_1: &str = "010204ff102015ddcee9";
+const C8_CHANGED: &str = "010204081020142a391f";
 const C3: &str = "00000000000000010100010100000001010101000001000101010001";
 const C9: &str = "01020408150a191e";
 pub const C5_IMAGE: &str = "0300030001000000\
@@ -133,6 +136,57 @@ fn two_wrong() -> Vec<Number> {
     ]
 }
 
+/// Cells of the document's stripes that get new bytes, and changes that are refused.
+fn changes() -> Vec<Number> {
+    let s = |t: &str| t.to_string();
+    let changed = |name: &'static str, shape: &str, stripe: &str, [column, row]: [usize; 2], cell: &str, expected: &str| {
+        ask(name, format!("change {shape} {stripe} {column} {row} {cell}"), s(expected))
+    };
+    let of_c1 = |name, place, expected: &str| changed(name, "3 3 1", C1, place, "ff", expected);
+    let refused = |name, place, cell: &str, number: u8| changed(name, "3 3 1", C1, place, cell, &format!("{number} {C1}"));
+    let cut = &C1[..18];
+    vec![
+        // In C1 S=18, H is 15 2a, and D is 39 1e. A cell off S is in one equation of H and in one of D.
+        // H(0)=ff+04+10=eb. D(0)=18+ff+20=c7.
+        of_c1("change,0,0", [0, 0], "0 ff0204081020eb2ac71e"),
+        // H(1)=ff+08+20=d7. D(1)=18+ff+04=e3.
+        of_c1("change,0,1", [0, 1], "0 01ff0408102015d739e3"),
+        // H(0)=01+ff+10=ee. D(1)=18+02+ff=e5.
+        of_c1("change,1,0", [1, 0], "0 0102ff081020ee2a39e5"),
+        // S=ff+10=ef. H(1)=02+ff+20=dd. D(0)=ef+01+20=ce, D(1)=ef+02+04=e9.
+        of_c1("change,1,1", [1, 1], &format!("0 {CHANGED_1_1}")),
+        // S=08+ff=f7. H(0)=01+04+ff=fa. D(0)=f7+01+20=d6, D(1)=f7+02+04=f1.
+        of_c1("change,2,0", [2, 0], "0 01020408ff20fa2ad6f1"),
+        // H(1)=02+08+ff=f5. Row 1 and column 2 add up to m: D(0)=18+01+ff=e6.
+        of_c1("change,2,1", [2, 1], "0 0102040810ff15f5e61e"),
+        changed("change,back", "3 3 1", CHANGED_1_1, [1, 1], "08", &format!("0 {C1}")),
+        // Row 0 broke by 01 and D's equation 1 by 01, and so they do with H(0)=01+04+10+01=14 and D(1)=18+02+04+01=1f.
+        changed("C8,change", "3 3 1", C1_05, [1, 0], "04", &format!("0 {C8_CHANGED}")),
+        ask("C8,change", format!("check 3 3 1 {C8_CHANGED}"), s("0 1 1 3")),
+        ask("C8,change", format!("locate 3 3 1 {C8_CHANGED}"), s("0 4 1")),
+        // With one data column S=0, and H and D are equal to it.
+        changed("C2,change", "3 1 1", "010201020102", [0, 1], "ff", "0 01ff01ff01ff"),
+        // It is on the diagonal of S. The cell is 00 already, and so nothing changes.
+        changed("C3,change", "5 5 1", C3, [3, 1], "00", &format!("0 {C3}")),
+        // The cell is 00. H(3)=01+ff=fe. Row 3 and column 4 are 2 modulo 5: D(2)=00+ff=ff.
+        changed("C3,change,wrap", "5 5 1", C3, [4, 3], "ff", "0 00000000000000010100010100000001010101ff000100fe0101ff01"),
+        // On the diagonal of S: H(0)=ff, D(0)=ff, D(1)=ff.
+        changed("C11,change", "3 3 1", &zeros(10), [2, 0], "ff", "0 00000000ff00ff00ffff"),
+        refused("change,column=3", [3, 0], "ff", 7),
+        refused("change,column=4", [4, 0], "ff", 7),
+        refused("change,column=max", [MAX, 0], "ff", 7),
+        refused("change,row=2", [0, 2], "ff", 11),
+        refused("change,row=max", [0, MAX], "ff", 11),
+        refused("change,cell=0", [0, 0], "-", 14),
+        refused("change,cell=2", [0, 0], "ffff", 14),
+        changed("change,length=9", "3 3 1", cut, [0, 0], "ff", &format!("2 {cut}")),
+        refused("change,column=3,row=2", [3, 2], "ff", 7),
+        refused("change,row=2,cell=2", [0, 2], "ffff", 11),
+        changed("change,length=9,column=3", "3 3 1", cut, [3, 0], "ff", &format!("2 {cut}")),
+        changed("change,k=4,length=9", "3 4 1", cut, [0, 0], "ff", &format!("12 {cut}")),
+    ]
+}
+
 pub fn all() -> Vec<Number> {
     let bytes = |text| bytes_of(text).expect("the bytes are written rightly");
     let c1_shape = Shape { m: 3, k: 3, b: 1 };
@@ -182,6 +236,7 @@ pub fn all() -> Vec<Number> {
         printed("C11,0,1,2", C11_0_1_2_IMAGE, s("shape 3 3 1|answer 4|")),
     ];
     list.extend(two_wrong());
+    list.extend(changes());
     let shapes = [
         ("m=2", [2, 1, 1], 1),
         ("m=9", [9, 1, 1], 1),

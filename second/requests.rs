@@ -10,6 +10,8 @@ pub enum Request {
     Restore(Shape, Map, Vec<u8>, Vec<u8>),
     Locate(Shape, Vec<u8>),
     Rewrite(Shape, Vec<u8>, usize),
+    /// The stripe, a column, a row, and the new cell.
+    Change(Shape, Vec<u8>, usize, usize, Vec<u8>),
     Show(Shape, Map, Vec<u8>, Vec<u8>, usize),
     Mark(Map, usize, bool),
     Gaps(usize, Map),
@@ -84,6 +86,9 @@ impl fmt::Display for Request {
         match self {
             Encode(n, s) | Check(n, s) | Locate(n, s) => write!(f, "{word} {n} {}", field(s)),
             Rewrite(n, s, column) => write!(f, "{word} {n} {} {column}", field(s)),
+            Change(n, s, column, row, cell) => {
+                write!(f, "{word} {n} {} {column} {row} {}", field(s), field(cell))
+            }
             Restore(n, map, s, bench) => write!(f, "{word} {n} {map} {} {}", field(s), field(bench)),
             Show(n, map, s, bench, column) => {
                 write!(f, "{word} {n} {map} {} {} {column}", field(s), field(bench))
@@ -105,6 +110,7 @@ impl Request {
             Restore(..) => "restore",
             Locate(..) => "locate",
             Rewrite(..) => "rewrite",
+            Change(..) => "change",
             Show(..) => "show",
             Mark(..) => "mark",
             Gaps(..) => "gaps",
@@ -124,6 +130,10 @@ impl Request {
             ("check", 5) => Check(shape()?, bytes_of(parts[4])?),
             ("locate", 5) => Locate(shape()?, bytes_of(parts[4])?),
             ("rewrite", 6) => Rewrite(shape()?, bytes_of(parts[4])?, number_of(parts[5])?),
+            ("change", 8) => {
+                let (column, row) = (number_of(parts[5])?, number_of(parts[6])?);
+                Change(shape()?, bytes_of(parts[4])?, column, row, bytes_of(parts[7])?)
+            }
             ("restore", 7) => {
                 Restore(shape()?, map_of(parts[4])?, bytes_of(parts[5])?, bytes_of(parts[6])?)
             }
@@ -164,6 +174,11 @@ impl Request {
             Rewrite(n, stripe, column) => {
                 let mut stripe = stripe.clone();
                 let done = rewrite(*n, &mut stripe, *column);
+                format!("{} {}", done.number, field(&stripe))
+            }
+            Change(n, stripe, column, row, cell) => {
+                let mut stripe = stripe.clone();
+                let done = change(*n, &mut stripe, *column, *row, cell);
                 format!("{} {}", done.number, field(&stripe))
             }
             Show(n, map, stripe, bench, column) => {

@@ -119,19 +119,27 @@ fn is_valid(shape: Shape, stripe: &[u8]) -> bool {
     (counts.number, counts.rows, counts.diagonals) == (0, 0, 0)
 }
 
-/// How many equations break, of H and of D: byte by byte, as they are written down.
-fn counts_by_the_rules(Shape { m, k, b }: Shape, stripe: &[u8]) -> (usize, usize) {
+/// By how much each equation breaks, of H and then of D: byte by byte, as they are written down.
+fn amounts_by_the_rules(Shape { m, k, b }: Shape, stripe: &[u8]) -> Vec<u8> {
     let at = |row: usize, column: usize, lane: usize| stripe[(column * (m - 1) + row) * b + lane];
     let a = |row: usize, t: usize, lane: usize| if row < m - 1 && t < k { at(row, t, lane) } else { 0 };
-    let (mut rows, mut diagonals) = (vec![false; m - 1], vec![false; m - 1]);
+    let mut amounts = vec![0; 2 * (m - 1) * b];
     for lane in 0..b {
         let s = (1..m).fold(0, |sum, t| sum ^ a(m - 1 - t, t, lane));
         for i in 0..m - 1 {
-            rows[i] |= at(i, k, lane) != (0..m).fold(0, |sum, t| sum ^ a(i, t, lane));
-            diagonals[i] |= at(i, k + 1, lane) != (0..m).fold(s, |sum, t| sum ^ a((i + m - t) % m, t, lane));
+            let (row, diagonal) = (i * b + lane, (m - 1 + i) * b + lane);
+            amounts[row] = at(i, k, lane) ^ (0..m).fold(0, |sum, t| sum ^ a(i, t, lane));
+            amounts[diagonal] = at(i, k + 1, lane) ^ (0..m).fold(s, |sum, t| sum ^ a((i + m - t) % m, t, lane));
         }
     }
-    let count = |list: Vec<bool>| list.into_iter().filter(|&breaks| breaks).count();
+    amounts
+}
+
+/// How many equations break, of H and of D.
+fn counts_by_the_rules(shape: Shape, stripe: &[u8]) -> (usize, usize) {
+    let amounts = amounts_by_the_rules(shape, stripe);
+    let count = |part: &[u8]| part.chunks(shape.b).filter(|amount| amount.iter().any(|&x| x != 0)).count();
+    let (rows, diagonals) = amounts.split_at(amounts.len() / 2);
     (count(rows), count(diagonals))
 }
 
@@ -187,6 +195,34 @@ fn rewrite_by_the_rules(shape: Shape, stripe: &[u8], column: usize) -> (u8, Vec<
         0 => filled_in(shape, stripe, column).map_or_else(|| refused(5), |filled| (0, filled)),
         number => refused(number),
     }
+}
+
+/// In which equations a data cell is, of H and then of D: those that break when it is flipped in a stripe of zeros.
+fn equations_with(Shape { m, k, .. }: Shape, column: usize, row: usize) -> Vec<usize> {
+    let mut stripe = vec![0; (k + 2) * (m - 1)];
+    stripe[column * (m - 1) + row] = 1;
+    let amounts = amounts_by_the_rules(Shape { m, k, b: 1 }, &stripe);
+    (0..2 * (m - 1)).filter(|&equation| amounts[equation] != 0).collect()
+}
+
+/// A change by the rules: its number, and the stripe afterwards. What the new cell differs by is added to the cells of H and D
+/// in whose equations it is.
+fn change_by_the_rules(shape: Shape, stripe: &[u8], column: usize, row: usize, new: &[u8]) -> (u8, Vec<u8>) {
+    let Shape { m, k, b } = shape;
+    let number = match plain_by_the_rules(shape, stripe) {
+        0 if column >= k => 7,
+        0 if row >= m - 1 => 11,
+        0 if new.len() != b => 14,
+        number => number,
+    };
+    let mut after = stripe.to_vec();
+    if number != 0 { return (number, after); }
+    let own = column * (m - 1) + row;
+    let parity = equations_with(shape, column, row).into_iter().map(|equation| k * (m - 1) + equation);
+    for cell in parity.chain([own]) {
+        (0..b).for_each(|lane| after[cell * b + lane] ^= stripe[own * b + lane] ^ new[lane]);
+    }
+    (0, after)
 }
 
 /// Finding and rewriting joined in one: its number, the column, and the stripe afterwards. A valid stripe stays, with
@@ -753,6 +789,225 @@ fn two_wrong(test: &mut Test) {
     test.same(|| format!("two wrong at random: {named} named, {six} not"), named > 50 && six > 100, true);
 }
 
+/// All that is said of a change that is not refused. Its answer is the stripe afterwards.
+fn one_change(test: &mut Test, shape: Shape, stripe: &[u8], column: usize, row: usize, new: &[u8]) -> Vec<u8> {
+    let Shape { m, k, b } = shape;
+    let about = || format!("change {shape}, column {column}, row {row}, {:?}", &stripe[..stripe.len().min(60)]);
+    let mut after = stripe.to_vec();
+    let number = change(shape, &mut after, column, row, new).number;
+    test.same(about, (number, after.clone()), change_by_the_rules(shape, stripe, column, row, new));
+    test.same(about, number, 0);
+    // Every equation breaks by the same amount as before, in every lane.
+    test.same(about, amounts_by_the_rules(shape, &after), amounts_by_the_rules(shape, stripe));
+    // The cell has the new bytes. One of H and one of D differ by as much, or on the diagonal of S all of D; all others stay.
+    let own = column * (m - 1) + row;
+    let equations = equations_with(shape, column, row);
+    let on_s = column > 0 && column + row == m - 1;
+    let (of_h, of_d) = if on_s { (1, m - 1) } else { (1, 1) };
+    let count = |of_d: bool| equations.iter().filter(|&&equation| (equation >= m - 1) == of_d).count();
+    test.same(about, (count(false), count(true)), (of_h, of_d));
+    let cell = |bytes: &[u8], number: usize| bytes[number * b..(number + 1) * b].to_vec();
+    let differs = |x: Vec<u8>, y: &[u8]| x.iter().zip(y).map(|(x, y)| x ^ y).collect::<Vec<u8>>();
+    let old = cell(stripe, own);
+    test.same(about, &cell(&after, own)[..], new);
+    for number in (0..(k + 2) * (m - 1)).filter(|&number| number != own) {
+        let depends = number >= k * (m - 1) && equations.contains(&(number - k * (m - 1)));
+        let wanted = if depends { differs(old.clone(), new) } else { vec![0; b] };
+        test.same(about, differs(cell(&after, number), &cell(stripe, number)), wanted);
+    }
+    // Of a valid stripe it is what an encode of the edited data gives.
+    let valid = is_valid(shape, stripe);
+    if valid {
+        let mut fresh = stripe.to_vec();
+        fresh[own * b..(own + 1) * b].copy_from_slice(new);
+        fresh[k * (m - 1) * b..].fill(0x5a);
+        encode(shape, &mut fresh);
+        test.same(about, &after, &fresh);
+    }
+    // A check counts the same, and a locate says the same; whether a valid stripe is blank, its bytes say.
+    let (before, now) = (check(shape, stripe), check(shape, &after));
+    let found = if !valid { 3 } else if all_zero(&after) { 2 } else { 1 };
+    test.same(about, (now.number, now.rows, now.diagonals), (before.number, before.rows, before.diagonals));
+    test.same(about, now.found, found);
+    if k < 10 {
+        let (before, now) = (locate(shape, stripe), locate(shape, &after));
+        test.same(about, (now.number, now.column), (before.number, before.column));
+        test.same(about, now.found, if valid { found } else { before.found });
+    }
+    // Changed back it is the stripe as it was. Of two changes of the cell the last holds.
+    let mut back = after.clone();
+    test.same(about, change(shape, &mut back, column, row, &old).number, 0);
+    test.same(about, &back[..], stripe);
+    let mut twice = stripe.to_vec();
+    change(shape, &mut twice, column, row, &vec![0x3c; b]);
+    change(shape, &mut twice, column, row, new);
+    test.same(about, &twice, &after);
+    after
+}
+
+/// Stripes of a shape: valid, all zero, and at random; and broken in one byte of a data column, of H or of D, in a whole
+/// column, in two, and in the first byte and the last.
+fn stripes_to_change(random: &mut Random, shape: Shape) -> Vec<Vec<u8>> {
+    let Shape { m, k, b } = shape;
+    let mut valid = random.bytes(shape.stripe_length());
+    encode(shape, &mut valid);
+    let mut stripes = vec![valid.clone(), vec![0; valid.len()], random.bytes(valid.len())];
+    let mut break_in = |places: Vec<usize>| {
+        let mut stripe = valid.clone();
+        places.into_iter().for_each(|place| stripe[place] ^= 1 + random.below(255) as u8);
+        stripes.push(stripe);
+    };
+    let column = |t: usize| t * (m - 1) * b..(t + 1) * (m - 1) * b;
+    for t in [k - 1, k, k + 1] { break_in(vec![column(t).end - 1]); }
+    break_in(column(0).collect());
+    break_in(column(0).chain(column(k)).collect());
+    break_in(vec![0, column(k + 1).end - 1]);
+    stripes
+}
+
+/// New bytes for a cell: those that it has, all 0, all 255, one bit changed in its last lane, and any.
+fn new_cells(random: &mut Random, old: &[u8]) -> Vec<Vec<u8>> {
+    let mut bit = old.to_vec();
+    bit[old.len() - 1] ^= 1 << random.below(8);
+    vec![old.to_vec(), vec![0; old.len()], vec![255; old.len()], bit, random.bytes(old.len())]
+}
+
+/// One bit to a cell: every stripe, and each cell changed to both values. Of all stripes with the edited data just one breaks
+/// every equation as before, and that it is.
+fn every_bit_changed(test: &mut Test, m: usize, k: usize) {
+    let shape = Shape { m, k, b: 1 };
+    let (data, length) = (k * (m - 1), shape.stripe_length());
+    let every: Vec<Vec<u8>> = (0..1usize << length).map(|bits| (0..length).map(|c| (bits >> c & 1) as u8).collect()).collect();
+    let amounts: Vec<Vec<u8>> = every.iter().map(|stripe| amounts_by_the_rules(shape, stripe)).collect();
+    for (bits, stripe) in every.iter().enumerate() {
+        for (cell, value) in (0..data).flat_map(|cell| [(cell, 0), (cell, 1)]) {
+            let edited = (bits & ((1 << data) - 1) & !(1 << cell)) | value << cell;
+            let with_it = (0..1usize << (length - data)).map(|parity| edited | parity << data);
+            let same: Vec<usize> = with_it.filter(|&other| amounts[other] == amounts[bits]).collect();
+            let mut after = stripe.clone();
+            let number = change(shape, &mut after, cell / (m - 1), cell % (m - 1), &[value as u8]).number;
+            let wanted: Vec<&Vec<u8>> = same.into_iter().map(|other| &every[other]).collect();
+            test.same(|| format!("cell {cell} to {value}, {shape}, {stripe:?}"), (number, vec![&after]), (0, wanted));
+        }
+    }
+}
+
+/// Changes of every two cells give the same in both orders.
+fn two_changes(test: &mut Test, random: &mut Random, shape: Shape, stripe: &[u8]) {
+    let rows = shape.m - 1;
+    for (x, y) in pairs(shape.k * rows) {
+        let (first, second) = (random.bytes(shape.b), random.bytes(shape.b));
+        let both = |steps: [(usize, &[u8]); 2]| {
+            let mut after = stripe.to_vec();
+            for (cell, new) in steps { change(shape, &mut after, cell / rows, cell % rows, new); }
+            after
+        };
+        let about = || format!("cells {x} and {y} of {shape}, {stripe:?}");
+        test.same(about, both([(x, &first), (y, &second)]), both([(y, &second), (x, &first)]));
+    }
+}
+
+/// Every set of faults, made in every way, on a valid stripe, a broken one and one of zeros: the first in order is given, and
+/// nothing changes.
+fn refused_changes(test: &mut Test) {
+    for faults in sets(&CHANGE_ORDER) {
+        let has = |number: u8| faults.contains(&number);
+        let number = first_of(&CHANGE_ORDER, &faults);
+        for stripe in ["valid", "broken", "zero"] {
+            let spoilt = if stripe == "broken" { [&faults[..], &[5]].concat() } else { faults.clone() };
+            let (shape, _, mut lent, ..) = with_faults(&spoilt);
+            if stripe == "zero" { lent.fill(0); }
+            // The shape is 5 4 2 where it is not wrong.
+            let columns: &[usize] = if has(7) { &[4, 5, 6, 7, 260, 1 << 32, MAX] } else { &[0, 3] };
+            let rows: &[usize] = if has(11) { &[4, 5, 6, 256, 1 << 32, MAX - 1, MAX] } else { &[0, 3] };
+            let lengths: &[usize] = if has(14) { &[0, 1, 3, 8, 40] } else { &[2] };
+            for (column, row) in columns.iter().flat_map(|&column| rows.iter().map(move |&row| (column, row))) {
+                for new in lengths.iter().map(|&length| vec![0x77; length]) {
+                    let mut after = lent.clone();
+                    let done = change(shape, &mut after, column, row, &new);
+                    let about = || format!("change, faults {faults:?}, {stripe}, {column} {row} {}", new.len());
+                    let wanted = change_by_the_rules(shape, &lent, column, row, &new);
+                    test.same(about, (done.number, &after), (wanted.0, &wanted.1));
+                    test.same(about, (done.number, after == lent), (number, number != 0));
+                }
+            }
+        }
+    }
+}
+
+/// The text of requests.
+fn text_of_changes(test: &mut Test) {
+    let c1 = numbers::C1;
+    for rest in [format!("{c1} 1 0 05"), format!("{c1} {MAX} {MAX} -"), "- 0 0 -".to_string(), format!("{c1} 0 0 0102")] {
+        let line = format!("change 3 3 1 {rest}");
+        let request = Request::parse(&line).expect("the request is written rightly");
+        test.same(|| "text".to_string(), &request.to_string(), &line);
+    }
+    for rest in ["", "1", "1 0", "1 0 05 0", "1 0 5", "1 0 0A", "1 -1 05", "-1 0 05", "1 18446744073709551616 05", "1 0 "] {
+        let line = format!("change 3 3 1 {c1} {rest}");
+        test.same(|| format!("malformed {line}"), Request::parse(&line).is_none(), true);
+    }
+}
+
+fn changes(test: &mut Test) {
+    let mut random = Random(37);
+    text_of_changes(test);
+    refused_changes(test);
+    for k in 1..=3 { every_bit_changed(test, 3, k); }
+    let shapes = [(3, 1, 1), (3, 2, 2), (3, 3, 1), (5, 1, 3), (5, 2, 1), (5, 3, 2), (5, 5, 1), (7, 1, 1), (7, 4, 1), (7, 7, 2)];
+    for (m, k, b) in shapes {
+        let shape = Shape { m, k, b };
+        for stripe in stripes_to_change(&mut random, shape) {
+            for (column, row) in (0..k).flat_map(|column| (0..m - 1).map(move |row| (column, row))) {
+                for new in new_cells(&mut random, &stripe[shape.cell_bytes(row, column)]) {
+                    one_change(test, shape, &stripe, column, row, &new);
+                }
+            }
+            two_changes(test, &mut random, shape, &stripe);
+        }
+    }
+    // Long cells, and many columns: the corners of the data, the ends of the diagonal of S, and the first cell that wraps.
+    for (m, k, b) in [(3, 1, 4096), (3, 3, 4096), (5, 3, 4096), (11, 9, 130), (31, 31, 1), (127, 1, 1), (127, 127, 1)] {
+        let shape = Shape { m, k, b };
+        let last = k - 1;
+        let mut cells = vec![(0, 0), (0, m - 2), (last, 0), (last, m - 2), (random.below(k), random.below(m - 1))];
+        if k > 1 { cells.extend([(1, m - 2), (last, m - 1 - last)]); }
+        if k > 2 { cells.push((last, m - last)); }
+        let stripes = stripes_to_change(&mut random, shape);
+        for (n, (column, row)) in cells.into_iter().enumerate() {
+            let stripe = if n % 2 == 0 { &stripes[0] } else { &stripes[2 + n % 7] };
+            for new in new_cells(&mut random, &stripe[shape.cell_bytes(row, column)]).into_iter().skip(3) {
+                one_change(test, shape, stripe, column, row, &new);
+            }
+        }
+    }
+    // Lines that are appended to a log: each is a change, and at the end stands what an encode of all of them gives.
+    for (m, k, b) in [(5, 4, 3), (7, 7, 16)] {
+        let shape = Shape { m, k, b };
+        let log = random.bytes(k * (m - 1) * b);
+        let mut stripe = vec![0; shape.stripe_length()];
+        for (cell, line) in log.chunks(b).enumerate() {
+            change(shape, &mut stripe, cell / (m - 1), cell % (m - 1), line);
+            test.same(|| format!("line {cell} of {shape}"), is_valid(shape, &stripe), true);
+        }
+        let mut fresh = [&log[..], &vec![0; 2 * (m - 1) * b]].concat();
+        encode(shape, &mut fresh);
+        test.same(|| format!("log in {shape}"), stripe, fresh);
+    }
+    for seed in 1..=3 {
+        for case in Maker::new(seed).changes().take(320) {
+            if let Request::Change(shape, stripe, column, row, new) = &case.request {
+                let (number, after) = change_by_the_rules(*shape, stripe, *column, *row, new);
+                let bytes = if after.is_empty() { "-".to_string() } else { hex(&after) };
+                let about = || format!("seed {seed} change {shape} {column} {row}, cell of {}", new.len());
+                test.same(about, case.request.answer(), format!("{number} {bytes}"));
+                test.same(about, Some(number), case.expected);
+                if number == 0 && shape.m < 30 && shape.b < 300 { one_change(test, *shape, stripe, *column, *row, new); }
+            }
+        }
+    }
+}
+
 /// The columns that a text of `shelf` prints, without its first and last line.
 fn printed_columns(text: &str) -> Vec<&str> {
     let lines = text.lines().filter(|line| !line.starts_with("shape ") && !line.starts_with("answer "));
@@ -777,9 +1032,14 @@ fn generated(test: &mut Test) {
                 test.same(|| format!("seed {seed} {head}"), &answer, &check_by_the_rules(*shape, stripe));
             }
             test.same(|| format!("seed {seed} {head}"), number, case.expected.unwrap_or(number));
-            // A rewrite is lent the field before the last.
-            let lent = line.rsplit(' ').nth((request.word() == "rewrite") as usize);
-            if number != FINE && ["encode", "restore", "rewrite", "read"].contains(&request.word()) {
+            // What is lent is the last field; after it a rewrite has one more, and a change three.
+            let after = match request.word() {
+                "rewrite" => 1,
+                "change" => 3,
+                _ => 0,
+            };
+            let lent = line.rsplit(' ').nth(after);
+            if number != FINE && ["encode", "restore", "rewrite", "change", "read"].contains(&request.word()) {
                 test.same(|| format!("seed {seed} refused, buffer {head}"), answer.rsplit(' ').next(), lent);
             }
             if let (Request::Locate(shape, stripe) | Request::Check(shape, stripe), FINE) = (&request, number) {
@@ -864,6 +1124,7 @@ const SHOW_ORDER: [u8; 9] = [1, 12, 13, 2, 3, 17, 9, 7, 4];
 const PLAIN_ORDER: [u8; 4] = [1, 12, 13, 2];
 const LOCATE_ORDER: [u8; 5] = [1, 12, 13, 2, 6];
 const REWRITE_ORDER: [u8; 6] = [1, 12, 13, 2, 7, 5];
+const CHANGE_ORDER: [u8; 7] = [1, 12, 13, 2, 7, 11, 14];
 
 /// How many places are present and which is the highest, place by place.
 fn by_the_places(places: &[bool; 129]) -> (usize, usize) {
@@ -1194,13 +1455,14 @@ fn maps(test: &mut Test) {
 }
 
 pub fn run(out: &mut impl Write) -> io::Result<bool> {
-    let groups: [(&str, fn(&mut Test)); 11] = [
+    let groups: [(&str, fn(&mut Test)); 12] = [
         ("document", document),
         ("shapes", shapes),
         ("lengths", lengths),
         ("searches", searches),
         ("blank", blank),
         ("two wrong", two_wrong),
+        ("changes", changes),
         ("ranks", ranks),
         ("images", images),
         ("maps", maps),

@@ -8,7 +8,8 @@
 
    The calls are made at shapes, and with columns absent or wrong or all bytes zero, that take every way through the library: cells on
    both sides of 128 bytes, columns on both sides of 1,024 bytes, stripes on both sides of 256 KiB, few columns and many, up to the largest
-   stripe. Each call must answer the number that the rules give, and check and locate must find what the rules say of the stripe.
+   stripe. Cells are changed on the diagonal of S and off it. Each call must answer the number that the rules give, and check and locate
+   must find what the rules say of the stripe.
 
    It prints a line for each call: the most bytes, and the first shape and case that took them. With a LIMIT it fails if they are more
    than LIMIT for any call; otherwise the calls at some of the shapes are then made again, each in a thread of 128 KiB. */
@@ -23,17 +24,18 @@
 #include "../include/oarwillow.h"
 
 enum { STACK = 256 << 10, THREAD = 128 << 10, COLUMNS = 129, LONGEST = 126 * 4096, NONE = 129 };
-enum call { HARNESS, ENCODE, CHECK, RESTORE, LOCATE, REWRITE, SHOW, CONTENTS, READ, GAPS, STRIPE_LENGTH, BENCH_LENGTH, CALLS };
-static const char *const names[CALLS] = {"harness",          "oarwillow_encode",  "oarwillow_check",         "oarwillow_restore",
-                                         "oarwillow_locate", "oarwillow_rewrite", "oarwillow_show",          "oarwillow_contents",
-                                         "oarwillow_read",   "oarwillow_gaps",    "oarwillow_stripe_length", "oarwillow_bench_length"};
+enum call { HARNESS, ENCODE, CHECK, RESTORE, LOCATE, REWRITE, CHANGE, SHOW, CONTENTS, READ, GAPS, STRIPE_LENGTH, BENCH_LENGTH, CALLS };
+static const char *const names[CALLS] = {
+    "harness",           "oarwillow_encode",        "oarwillow_check",       "oarwillow_restore",  "oarwillow_locate",
+    "oarwillow_rewrite", "oarwillow_change",        "oarwillow_show",        "oarwillow_contents", "oarwillow_read",
+    "oarwillow_gaps",    "oarwillow_stripe_length", "oarwillow_bench_length"};
 
 /* A case: a call, what it is given, and the number that it must answer, or the length. */
 struct given {
     enum call call;
     const char *words;
-    size_t m, k, b, column;
-    size_t stripe_len, bench_len, image_len;
+    size_t m, k, b, column, row;
+    size_t stripe_len, bench_len, image_len, cell_len;
     size_t changed[3]; /* places: a column's is made absent, another present */
     size_t wrong[2];   /* columns: the first is wrong in row 0 and lane 0, the second in row 1 */
     size_t lane;       /* and in this lane */
@@ -43,7 +45,7 @@ struct given {
 static struct given asked, worst[CALLS];
 static size_t most[CALLS], cases;
 
-static uint8_t *stripe, *zeros, *bench, *image, places[129];
+static uint8_t *stripe, *zeros, *bench, *image, cell[4097], places[129];
 static size_t results[5];
 static uint8_t found;
 static unsigned answer;
@@ -75,6 +77,9 @@ static void perform(void)
         break;
     case REWRITE:
         answer = oarwillow_rewrite(g->m, g->k, g->b, stripe, g->stripe_len, g->column);
+        break;
+    case CHANGE:
+        answer = oarwillow_change(g->m, g->k, g->b, stripe, g->stripe_len, g->column, g->row, cell, g->cell_len);
         break;
     case SHOW:
         answer = oarwillow_show(g->m, g->k, g->b, places, stripe, g->stripe_len, bench, g->bench_len, g->column, r, r + 1, r + 2);
@@ -179,6 +184,7 @@ static void ask(enum call call, const char *words, unsigned number)
     asked = (struct given){.call = call, .words = words, .m = m, .k = k, .b = b, .number = number};
     asked.stripe_len = (k + 2) * column_length();
     asked.bench_len = 2 * column_length();
+    asked.cell_len = b;
     for (size_t i = 0; i < 3; i++)
         asked.changed[i] = NONE;
     for (size_t i = 0; i < 2; i++)
@@ -206,7 +212,8 @@ static unsigned to_be_found(void)
     return asked.call == CHECK ? OARWILLOW_FOUND_BROKEN : OARWILLOW_FOUND_COLUMN;
 }
 
-/* Makes the call. The stripe is a valid one before and afterwards: a rewrite that is not refused makes it so. */
+/* Makes the call. The stripe is a valid one before and afterwards: a rewrite that is not refused makes it so, and after a change the
+   columns are wrong as they were before. */
 static void measure(void)
 {
     size_t bytes;
@@ -258,6 +265,17 @@ static void with_column(const char *words, size_t column, size_t first, size_t s
     asked.wrong[0] = first;
     asked.wrong[1] = second;
     asked.lane = lane;
+    measure();
+}
+
+/* Changes a cell, of a stripe with a column wrong or none. */
+static void with_cell(const char *words, size_t column, size_t row, size_t wrong)
+{
+    ask(CHANGE, words, 0);
+    asked.column = column;
+    asked.row = row;
+    asked.wrong[0] = wrong;
+    memset(cell, (int)(stripe[column * column_length() + row * asked.b] ^ 0x5a), asked.cell_len);
     measure();
 }
 
@@ -367,6 +385,16 @@ static void at_shape(size_t m, size_t k, size_t b)
     with_column("D, a data column wrong", d, 0, NONE, 0, 5);
     with_column("intact", last, NONE, NONE, 0, 0);
 
+    with_cell("off the diagonal of S", 0, 0, NONE);
+    with_cell("the last cell of the data", last, m - 2, NONE);
+    with_cell("off the diagonal of S, it is wrong", 0, 0, 0);
+    with_cell("off the diagonal of S, D wrong", 0, 0, d);
+    if (k > 1) {
+        with_cell("on the diagonal of S", last, m - 1 - last, NONE);
+        with_cell("on the diagonal of S, H wrong", 1, m - 2, h);
+    }
+    with_wrong(CHECK, "changed", NONE, NONE, 0, 0);
+
     with_map(SHOW, "present", NONE, NONE, NONE, NONE, 0);
     with_map(SHOW, "restored", 0, d, NONE, NONE, 0);
     with_map(SHOW, "three absent", 0, h, d, NONE, 4);
@@ -386,7 +414,7 @@ static void at_shape(size_t m, size_t k, size_t b)
     measure();
 }
 
-/* What is refused for a number, a length or a place. */
+/* What is refused for a number, a length, a place or a cell. */
 static void refusals(void)
 {
     static const size_t faults[][4] = {{9, 3, 16, 1}, {5, 6, 16, 12}, {5, 3, 4097, 13}};
@@ -411,6 +439,17 @@ static void refusals(void)
     for (enum call call = REWRITE; call <= SHOW; call++) {
         ask(call, "no such column", 7);
         asked.column = 5;
+        measure();
+    }
+    ask(CHANGE, "H is no data", 7);
+    asked.column = 3;
+    measure();
+    ask(CHANGE, "no such row", 11);
+    asked.row = 4;
+    measure();
+    for (size_t length = 15; length <= 17; length += 2) {
+        ask(CHANGE, "a cell of another length", 14);
+        asked.cell_len = length;
         measure();
     }
     for (enum call call = CONTENTS; call <= READ; call++) {

@@ -2,20 +2,21 @@
 
 use crate::code::*;
 use crate::generate::{
-    AT_MOST_ONE, BAD_B, BAD_K, BAD_M, EXTENTS, GAP_KS, HEADER_ORDER, PATTERNS, PLAIN_ORDER, RESTORE_ORDER,
-    REWRITE_ORDER, SHOW_ORDER, SIZES, extent, together,
+    AT_MOST_ONE, BAD_B, BAD_K, BAD_M, CHANGE_ORDER, CHANGE_WAYS, CHANGED_CELLS, CHANGED_STRIPES, EXTENTS, FAR, GAP_KS,
+    HEADER_ORDER, NEW_CELLS, PATTERNS, PLAIN_ORDER, RESTORE_ORDER, REWRITE_ORDER, SHOW_ORDER, SIZES, extent, together,
 };
 use crate::image;
 use crate::requests::Request;
 use std::collections::BTreeMap;
 use std::io::{self, BufRead, Write};
 
-const ANSWERS: [(&str, &[u8]); 10] = [
+const ANSWERS: [(&str, &[u8]); 11] = [
     ("encode", &[0, 1, 2, 12, 13]),
     ("check", &[0, 1, 2, 12, 13]),
     ("restore", &[0, 1, 2, 3, 4, 5, 9, 12, 13]),
     ("locate", &[0, 1, 2, 6, 12, 13]),
     ("rewrite", &[0, 1, 2, 5, 7, 12, 13]),
+    ("change", &[0, 1, 2, 7, 11, 12, 13, 14]),
     ("show", &[0, 1, 2, 3, 4, 7, 9, 12, 13]),
     ("mark", &[0, 7]),
     ("gaps", &[0]),
@@ -24,12 +25,13 @@ const ANSWERS: [(&str, &[u8]); 10] = [
 ];
 
 /// The orders in which faults met together are judged.
-const ORDERS: [(&str, &[u8]); 8] = [
+const ORDERS: [(&str, &[u8]); 9] = [
     ("encode", &PLAIN_ORDER),
     ("check", &PLAIN_ORDER),
     ("locate", &PLAIN_ORDER),
     ("restore", &RESTORE_ORDER),
     ("rewrite", &REWRITE_ORDER),
+    ("change", &CHANGE_ORDER),
     ("show", &SHOW_ORDER),
     ("read", &HEADER_ORDER),
     ("contents", &HEADER_ORDER),
@@ -77,6 +79,41 @@ const TWO_WRONG: [&str; 23] = [
     "restore two wrong, another pair absent",
 ];
 
+/// Of a change that is done, beside the kinds of its stripe, its cell and its new bytes. A broken stripe has its own row or
+/// diagonal broken, in which the cell is, or only others.
+const CHANGES: [&str; 7] = [
+    "row 0", "row m-2", "k=1", "k=m", "broken, own row", "broken, own diagonal", "broken, others only",
+];
+
+/// Every two kinds that a change can be of: the kinds of its stripe, of its cell, of its new bytes and of its shape.
+fn change_kinds() -> Vec<String> {
+    let kinds: [&[&str]; 4] = [&CHANGED_STRIPES, &CHANGED_CELLS, &NEW_CELLS, &EXTENTS];
+    let mut cells = Vec::new();
+    for (n, some) in kinds.iter().enumerate() {
+        for others in &kinds[n + 1..] {
+            cells.extend(some.iter().flat_map(|x| others.iter().map(move |y| format!("change {x}, {y}"))));
+        }
+    }
+    cells
+}
+
+/// The ways in which one fault of a change is made alone, with each kind of shape, and of stripe where that is not refused
+/// for its length; and with the shortest and the longest cells. A column or a row is also so far above a right one, and 129.
+fn change_faults_alone() -> Vec<String> {
+    let mut cells: Vec<String> = [1, 12, 13].map(|number| format!("change {number} alone")).to_vec();
+    for (number, ways) in CHANGE_WAYS {
+        let kinds = ways.iter().flat_map(|way| EXTENTS.map(|kind| format!("{way}, {kind}")));
+        let sizes = ["b=1", "b=4096"].map(str::to_string);
+        let stripes = CHANGED_STRIPES.into_iter().filter(|_| number != BAD_STRIPE).map(str::to_string);
+        cells.extend(kinds.chain(sizes).chain(stripes).map(|kind| format!("change {number} alone, {kind}")));
+    }
+    for number in [BAD_NUMBER, BAD_ROW] {
+        cells.extend(FAR.iter().map(|far| format!("change {number} alone, {far} above")));
+        cells.push(format!("change {number} alone, 129"));
+    }
+    cells
+}
+
 /// Of a request for gaps beside its k, where that is one of the named.
 const GAPS: [&str; 15] = [
     "k ordinary", "k large",
@@ -116,6 +153,12 @@ fn expected_cells() -> Vec<String> {
         cells.extend(FAINT.iter().map(|name| format!("{word} {name}")));
     }
     cells.extend(TWO_WRONG.iter().map(|name| name.to_string()));
+    cells.extend(CHANGES.iter().map(|name| format!("change {name}")));
+    cells.extend(change_kinds());
+    for b in [1, 4096] {
+        cells.extend(CHANGED_CELLS.iter().map(|cell| format!("change {cell}, b={b}")));
+    }
+    cells.extend(change_faults_alone());
     cells.extend(BAD_M.iter().map(|m| format!("refused m={m}")));
     cells.extend(BAD_K.iter().map(|k| format!("refused k={k}")));
     cells.extend(BAD_B.iter().map(|b| format!("refused b={b}")));
@@ -180,8 +223,8 @@ fn shape_faults(Shape { m, k, b }: Shape) -> [(u8, bool); 3] {
     [(WRONG_M, m > 127 || !is_odd_prime(m)), (WRONG_K, k == 0 || k > m), (WRONG_B, b == 0 || b > 4096)]
 }
 
-fn holding(faults: impl IntoIterator<Item = (u8, bool)>) -> Vec<u8> {
-    faults.into_iter().filter(|(_, holds)| *holds).map(|(number, _)| number).collect()
+fn holding<T>(all: impl IntoIterator<Item = (T, bool)>) -> Vec<T> {
+    all.into_iter().filter(|(_, holds)| *holds).map(|(what, _)| what).collect()
 }
 
 /// Every fault of a call with a map, each judged for itself.
@@ -202,6 +245,27 @@ fn faults(shape: Shape, map: &Map, stripe: &[u8], bench: &[u8], column: usize) -
         (NONE_FITS, shape.judge() == FINE && none_fits()),
     ];
     holding(shape_faults(shape).into_iter().chain(others))
+}
+
+/// Every fault of a change, each judged for itself.
+fn faults_of_change(shape: Shape, stripe: &[u8], column: usize, row: usize, cell: &[u8]) -> Vec<u8> {
+    let Shape { m, k, b } = shape;
+    let length = k.wrapping_add(2).wrapping_mul(m.wrapping_sub(1)).wrapping_mul(b);
+    let others = [
+        (BAD_STRIPE, stripe.len() != length),
+        (BAD_NUMBER, column >= k),
+        (BAD_ROW, row >= m.saturating_sub(1)),
+        (BAD_CELL, cell.len() != b),
+    ];
+    holding(shape_faults(shape).into_iter().chain(others))
+}
+
+fn kind_of_stripe(shape: Shape, stripe: &[u8]) -> &'static str {
+    match check(shape, stripe).found {
+        FOUND_BLANK => "zero",
+        FOUND_BROKEN => "broken",
+        _ => "valid",
+    }
 }
 
 /// The cells met, and the stripe of the last check that was valid.
@@ -463,6 +527,68 @@ impl Tally {
         }
     }
 
+    /// The kinds of the cell that is changed, and of what is put there.
+    fn changed(&mut self, shape: Shape, stripe: &[u8], column: usize, row: usize, new: &[u8]) {
+        let Shape { m, k, b } = shape;
+        let old = &stripe[shape.cell_bytes(row, column)];
+        let others = old.iter().zip(new).filter(|(x, y)| x != y).count();
+        let on_s = column + row == m - 1;
+        let stripe_kind = kind_of_stripe(shape, stripe);
+        let cells = CHANGED_CELLS.into_iter().zip([column == 0, column == k - 1, on_s, column + row >= m]);
+        let contents = NEW_CELLS.into_iter().zip([others == 0, is_zero(new), others == 1, others == b]);
+        let (cells, contents) = (holding(cells), holding(contents));
+        let kinds = [vec![stripe_kind], cells.clone(), contents, vec![extent(shape)]];
+        for (n, some) in kinds.iter().enumerate() {
+            for (x, y) in kinds[n + 1..].iter().flatten().flat_map(|y| some.iter().map(move |x| (x, y))) {
+                self.add(format!("change {x}, {y}"));
+            }
+        }
+        if b == 1 || b == 4096 { cells.iter().for_each(|cell| self.add(format!("change {cell}, b={b}"))); }
+        if row == 0 { self.add("change row 0"); }
+        if row == m - 2 { self.add("change row m-2"); }
+        if k == 1 { self.add("change k=1"); }
+        if k == m { self.add("change k=m"); }
+        if stripe_kind == "broken" {
+            // What the data gives, and where that is not what stands there.
+            let mut fitting = stripe.to_vec();
+            encode(shape, &mut fitting);
+            let breaks = |column: usize, row: usize| {
+                let cell = shape.cell_bytes(row, column);
+                fitting[cell.clone()] != stripe[cell]
+            };
+            let own_row = breaks(k, row);
+            let own_diagonal = (0..m - 1).any(|i| (on_s || i == (column + row) % m) && breaks(k + 1, i));
+            if own_row { self.add("change broken, own row"); }
+            if own_diagonal { self.add("change broken, own diagonal"); }
+            if !own_row && !own_diagonal { self.add("change broken, others only"); }
+        }
+    }
+
+    /// The ways in which a change bears this one fault.
+    fn refused_change(&mut self, shape: Shape, stripe: &[u8], column: usize, row: usize, new: &[u8], number: u8) {
+        let Shape { m, k, b } = shape;
+        if [WRONG_M, WRONG_K, WRONG_B].contains(&number) { return self.add(format!("change {number} alone")); }
+        let (max, length) = (usize::MAX, new.len());
+        let met = match number {
+            BAD_NUMBER => vec![column == k, column == k + 1, column == k + 2, k + 2 < column && column < max, column == max],
+            BAD_ROW => vec![row == m - 1, row == m, m < row && row < max, row == max],
+            BAD_CELL => vec![length == 0, length + 1 == b, length == b + 1, length == shape.column_length()],
+            _ => vec![true],
+        };
+        let (_, ways) = CHANGE_WAYS.into_iter().find(|(other, _)| *other == number).expect("a fault of a change");
+        for way in holding(ways.iter().zip(met)) {
+            self.add(format!("change {number} alone, {way}, {}", extent(shape)));
+        }
+        let (value, limit) = if number == BAD_NUMBER { (column, k) } else { (row, m - 1) };
+        if [BAD_NUMBER, BAD_ROW].contains(&number) {
+            let above = FAR.into_iter().filter(|far| (*far..far + limit).contains(&value));
+            above.for_each(|far| self.add(format!("change {number} alone, {far} above")));
+            if value == 129 { self.add(format!("change {number} alone, 129")); }
+        }
+        if b == 1 || b == 4096 { self.add(format!("change {number} alone, b={b}")); }
+        if number != BAD_STRIPE { self.add(format!("change {number} alone, {}", kind_of_stripe(shape, stripe))); }
+    }
+
     fn count(&mut self, request: &Request) {
         // It is not refused: its answer begins with a length.
         if let Request::Lengths(shape) = request { return self.lengths(*shape); }
@@ -483,6 +609,16 @@ impl Tally {
                 self.located(*shape, stripe, &answer);
             }
             Request::Rewrite(shape, stripe, column) => self.rewritten(*shape, stripe, *column, number),
+            Request::Change(shape, stripe, column, row, new) => {
+                self.shape(*shape);
+                let faults = faults_of_change(*shape, stripe, *column, *row, new);
+                self.add_faults("change", &CHANGE_ORDER, &faults);
+                match faults[..] {
+                    [] => self.changed(*shape, stripe, *column, *row, new),
+                    [number] => self.refused_change(*shape, stripe, *column, *row, new, number),
+                    _ => {}
+                }
+            }
             Request::Restore(shape, map, stripe, bench) => self.restored(*shape, map, stripe, bench, number),
             Request::Show(shape, map, stripe, bench, column) => {
                 self.shape(*shape);

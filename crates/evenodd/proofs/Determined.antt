@@ -8,9 +8,10 @@ use Prim.Native.Nat.{ℕ, _+_, _<_, _≤_}
 use native.Mathlib.Decide.{decLt}
 use native.Mathlib.Omega.{arith}
 use Rattle.parity.specs.Shape.{Shape, stripeLength, benchLength}
-use Rattle.parity.specs.Stripe.{Valid}
+use Rattle.parity.specs.Stripe.{byte, Valid}
 use Rattle.parity.specs.Presence.{differs, absences, Agrees, AgreesBut}
 use Rattle.parity.proofs.Columns.{same-column}
+use Rattle.parity.proofs.Change.{by-cell, data-stays, same-data-amounts, amounts-back, amounts-both}
 use Rattle.parity.proofs.Stripes.{stripe-determined}
 use Rattle.parity.proofs.Theorems.{frame, served, at-most-one, absent-unread, one-wrong}
 use Rattle.inputs.specs.Rules.{tooManyAbsent, contradicted, unmendable, stripeRules, lentRules, gapRules, restoreRules, showRules}
@@ -21,8 +22,9 @@ use Rattle.evenodd.specs.declared.checks.Checked.the-variants as checked
 use Rattle.evenodd.specs.declared.encodes.Encoded.the-variants as encoded
 use Rattle.evenodd.proofs.Located.{not-one}
 use Rattle.evenodd.proofs.Rewritten.{between, agrees-self, agrees-back, one-but}
+use Rattle.evenodd.proofs.Changed.{change-given}
 use Rattle.evenodd.proofs.Shown.{in-stripe, in-bench}
-use Rattle.evenodd.specs.Determined.{EncodesOne, ChecksOne, RestoresOne, RestoresUnread, LocatesOne, RewritesOne, leftOf, RewritesUnread, MendsOne, PlacesOne, SamePart, ShowsOne, PlacesUnread, ShowsUnread}
+use Rattle.evenodd.specs.Determined.{EncodesOne, ChecksOne, RestoresOne, RestoresUnread, LocatesOne, RewritesOne, leftOf, RewritesUnread, ChangesOne, MendsOne, PlacesOne, SamePart, ShowsOne, PlacesUnread, ShowsUnread}
 use lib.ListN.{length}
 use Rattle.parity.specs.Theorems.{AtMostOne, AbsentUnread, OneWrong}
 use Rattle.parity.proofs.Bytes.{stripe-ext}
@@ -39,6 +41,8 @@ use Rattle.evenodd.specs.Restores.{Benched, RestoredFrom}
 use Rattle.evenodd.specs.Checks.{Checks}
 use Rattle.evenodd.specs.Locates.{locateRules, verdictOf, columnOf, Locates}
 use Rattle.evenodd.specs.Rewrites.{columnRules, rewriteRules, Rewrites}
+use Rattle.evenodd.specs.declared.changes.Changed.the-variants as changed
+use Rattle.evenodd.specs.Changes.{changeRules}
 use Rattle.evenodd.specs.Mends.{Mends}
 use denote.Ref.{RefT, now}
 use Rattle.evenodd.specs.declared.shows.Place.{Place}
@@ -201,6 +205,25 @@ rewrites-one m k b column s x y rewritten.Done (rewritten.Refused g) p q = absur
 rewrites-one m k b column s x y (rewritten.Refused f) rewritten.Done p q = absurd (passes-not f (gives-one (rewriteRules m k b column s) _ _ (q .told) (p .told)))
 rewrites-one m k b column s x y (rewritten.Refused f) (rewritten.Refused g) p q =
     (ap rewritten.Refused (refuse-one f g (gives-one (rewriteRules m k b column s) _ _ (p .told) (q .told))), p .left ∙ sym (q .left))
+
+-- ---- change
+
+pub changes-one : ChangesOne
+unfolding ChangesOne
+changes-one m k b column row cell s x y changed.Done changed.Done p q =
+    let f = change-given m k b column row cell s (p .told) in
+    (
+      refl,
+      same-data-amounts m k b (f .shape .value .prime .big) (f .shape .filled) x y (p .left .size ∙ f .whole) (q .left .size ∙ f .whole)
+      (λ l i t hl hi ht. by-cell (byte m b x l i t ≡ byte m b y l i t) t i column row
+      (λ e d. rw (e, d) (p .left .new l hl ∙ sym (q .left .new l hl)))
+      (λ other. data-stays (f .datum) (p .left) l i t hl hi ht other ∙ sym (data-stays (f .datum) (q .left) l i t hl hi ht other)))
+      (amounts-both (amounts-back (p .left .amounts)) (q .left .amounts)),
+    )
+changes-one m k b column row cell s x y changed.Done (changed.Refused g) p q = absurd (passes-not g (gives-one (changeRules m k b column row cell s) _ _ (p .told) (q .told)))
+changes-one m k b column row cell s x y (changed.Refused f) changed.Done p q = absurd (passes-not f (gives-one (changeRules m k b column row cell s) _ _ (q .told) (p .told)))
+changes-one m k b column row cell s x y (changed.Refused f) (changed.Refused g) p q =
+    (ap changed.Refused (refuse-one f g (gives-one (changeRules m k b column row cell s) _ _ (p .told) (q .told))), p .left ∙ sym (q .left))
 
 -- ---- what mend promised
 

@@ -5,7 +5,9 @@ pub mod Checked
 pub mod Restored
 pub mod Located
 pub mod Rewritten
+pub mod Changed
 pub mod Shown
 pub mod Determined
 pub mod EndToEnd
 pub mod TwoWrong
+pub mod AfterChange

@@ -1,4 +1,5 @@
--- What follows from the promises alone, from end to end. Each statement is a type, which proofs/EndToEnd, or where two columns were changed proofs/TwoWrong, inhabits.
+-- What follows from the promises alone, from end to end. Each statement is a type, which proofs/EndToEnd, or where two columns were changed proofs/TwoWrong, or
+-- where a cell was changed proofs/AfterChange, inhabits.
 --   OneOrNothing       if exactly one valid stripe agrees with the columns that are present, restore gives it: stripe and bench together are that one.
 --                      Otherwise it gives nothing, and says why: 4 exactly when two different ones agree, 5 exactly when none does
 --   RestoreGivesBack   encode, lose at most two columns, whatever stands in their places: restore gives them back
@@ -11,6 +12,13 @@
 --   RewriteKeepsValid  a valid stripe of which any column is rewritten stays as it is
 --   RestoreAsRewrite   where rewrite of a column passes, restore with that column absent, and at most one other, passes too and gives what rewrite leaves;
 --                      where rewrite gives 5, restore with that column absent and no other does
+-- Where change is done:
+--   ChangeAsEncode     a valid stripe becomes what encode makes of its data with that cell edited
+--   ChangeKeepsBroken  exactly the equations that were broken are broken afterwards, in every lane; so check counts the same, and a stripe is valid exactly
+--                      when it was
+--   ChangeKeepsBlame   locate names the column that it named, or none as before, and gives 6 exactly where it did
+--   ChangeBack         changed back to the bytes that it held, the cell gives the stripe back
+--   ChangesCommute     two changes of different cells leave the same in either order
 -- Where exactly two columns of a valid stripe were changed (`TwoChanged`):
 --   SixOrAThird        check says neither intact nor blank and is not refused, and locate gives 6 or names a column that is neither of the two
 --   AnyThirdNamed      it can be any third that is named, whatever the stripe and whichever the two
@@ -24,9 +32,10 @@ use mathlib.Core.Logic.{_≢_, _↔_, _⊎_}
 use mathlib.Core.Bool.{Bool, true, false, not, cond}
 use mathlib.Core.List.{List, [], _∷_}
 use Prim.Native.Nat.{ℕ, _+_, _-_, _≤_, _<_}
-use lib.ListN.{length}
+use lib.ListN.{length, getD}
 use Rattle.parity.specs.Shape.{member, Shape, benchLength}
-use Rattle.parity.specs.Stripe.{byte, Stripe, Valid, Blank}
+use Rattle.parity.specs.Equations.{amountH, amountD}
+use Rattle.parity.specs.Stripe.{byte, lane, Stripe, Valid, Blank}
 use Rattle.parity.specs.Presence.{present, absences, differing, DifferIn, Agrees, AgreesBut}
 use Rattle.parity.specs.Theorems.{TwoChanged}
 use Rattle.maps.specs.declared.Map.{Map}
@@ -35,8 +44,11 @@ use Rattle.refusals.specs.declared.Refusal.the-variants.{Ambiguous, Contradicte
 use Rattle.refusals.specs.Refusals.{pass}
 use Rattle.maps.specs.Absent.{Stray}
 use Rattle.maps.specs.Truth.{TrueMap}
+use Rattle.evenodd.specs.declared.changes.Changed.{Changed}
+use Rattle.evenodd.specs.declared.changes.Changed.the-variants as changed
 use Rattle.evenodd.specs.declared.checks.Checked.{Checked}
 use Rattle.evenodd.specs.declared.checks.Checked.the-variants as checked
+use Rattle.evenodd.specs.declared.encodes.Encoded.{Encoded}
 use Rattle.evenodd.specs.declared.encodes.Encoded.the-variants as encoded
 use Rattle.evenodd.specs.declared.locates.Located.{Located}
 use Rattle.evenodd.specs.declared.locates.Located.the-variants as located
@@ -45,7 +57,8 @@ use Rattle.evenodd.specs.declared.restores.Restored.the-variants as rest
 use Rattle.evenodd.specs.declared.rewrites.Rewritten.{Rewritten}
 use Rattle.evenodd.specs.declared.rewrites.Rewritten.the-variants as rewritten
 use Rattle.evenodd.specs.Encodes.{Encodes}
-use Rattle.evenodd.specs.Checks.{Checks}
+use Rattle.evenodd.specs.Checks.{rowsOf, diagonalsOf, Checks}
+use Rattle.evenodd.specs.Changes.{Changes}
 use Rattle.evenodd.specs.Restores.{verdictOf, countOf, firstOf, secondOf, Benched, Restores}
 use Rattle.evenodd.specs.Locates.{Locates}
 use Rattle.evenodd.specs.Rewrites.{Rewrites}
@@ -152,6 +165,43 @@ RestoreAsRewrite = (m k b column : ℕ) (map : Map) (s before after left : List 
     → present (map .places) column ≡ false → absences k (map .places) ≤ 2 → Restores m k b map s before after r → Rewrites m k b column s left q
     → (q ≡ rewritten.Done → (verdictOf r ≡ pass) × Together m k b (map .places) s after left)
     × (AbsentAre k (column ∷ []) (map .places) → q ≡ rewritten.Refused Contradicted → r ≡ restored.Refused Contradicted)
+
+-- the data of `edited` is that of s, but that the cell in row `row` of column `column` holds the bytes of `cell`; what its H and D hold is left open
+pub record Edited (m k b column row : ℕ) (cell s edited : List ℕ) : Type 0 where
+  pub size : length edited ≡ length s
+  pub new : (l : ℕ) → l < b → byte m b edited l row column ≡ getD cell l 0
+  pub others : (l i t : ℕ) → l < b → i < m - 1 → t < k → (t ≡ column → i ≢ row) → byte m b edited l i t ≡ byte m b s l i t
+
+unfoldable pub ChangeAsEncode : Type 0
+ChangeAsEncode = (m k b column row : ℕ) (cell s after edited fresh : List ℕ) (q : Encoded) → Valid m k b s → Changes m k b column row cell s after changed.Done
+    → Edited m k b column row cell s edited → Encodes m k b edited fresh q → (q ≡ encoded.Done) × (after ≡ fresh)
+
+-- the same equations are broken in s and in v
+pub record SameBroken (m k b : ℕ) (s v : List ℕ) : Type 0 where
+  pub rows : (l i : ℕ) → l < b → i < m - 1 → (amountH m k (lane m b s l) i ≡ 0) ↔ (amountH m k (lane m b v l) i ≡ 0)
+  pub diagonals : (l i : ℕ) → l < b → i < m - 1 → (amountD m k (lane m b s l) i ≡ 0) ↔ (amountD m k (lane m b v l) i ≡ 0)
+
+unfoldable pub ChangeKeepsBroken : Type 0
+ChangeKeepsBroken = (m k b column row : ℕ) (cell s after : List ℕ) → Changes m k b column row cell s after changed.Done
+    → SameBroken m k b s after
+    × ((r q : Checked) → Checks m k b s r → Checks m k b after q → (rowsOf r ≡ rowsOf q) × (diagonalsOf r ≡ diagonalsOf q))
+    × (Stripe m k b s → Stripe m k b after → Valid m k b s ↔ Valid m k b after)
+
+unfoldable pub ChangeKeepsBlame : Type 0
+ChangeKeepsBlame = (m k b column row : ℕ) (cell s after : List ℕ) (r q : Located) → Stripe m k b s → Stripe m k b after → Changes m k b column row cell s after changed.Done
+    → Locates m k b s r → Locates m k b after q
+    → ((u : ℕ) → (r ≡ located.Column u) ↔ (q ≡ located.Column u)) × ((r ≡ located.Refused Unmendable) ↔ (q ≡ located.Refused Unmendable))
+
+unfoldable pub ChangeBack : Type 0
+ChangeBack = (m k b column row : ℕ) (cell held s after back : List ℕ) (q : Changed) → Changes m k b column row cell s after changed.Done
+    → length held ≡ b → ((l : ℕ) → l < b → getD held l 0 ≡ byte m b s l row column) → Changes m k b column row held after back q
+    → (q ≡ changed.Done) × (back ≡ s)
+
+unfoldable pub ChangesCommute : Type 0
+ChangesCommute = (m k b column row column′ row′ : ℕ) (cell cell′ s one two both other : List ℕ) (r q : Changed) → (column ≡ column′ → row ≢ row′)
+    → Changes m k b column row cell s one changed.Done → Changes m k b column′ row′ cell′ s two changed.Done
+    → Changes m k b column′ row′ cell′ one both r → Changes m k b column row cell two other q
+    → (r ≡ changed.Done) × (q ≡ changed.Done) × (both ≡ other)
 
 unfoldable pub SixOrAThird : Type 0
 SixOrAThird = (m k b x y : ℕ) (s wrong : List ℕ) (r : Checked) (q : Located) → Shape m k b → TwoChanged m k b x y s wrong → Checks m k b wrong r → Locates m k b wrong q

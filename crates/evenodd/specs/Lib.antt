@@ -5,6 +5,7 @@ pub mod Fills
 pub mod Restores
 pub mod Locates
 pub mod Rewrites
+pub mod Changes
 pub mod Mends
 pub mod Shows
 pub mod Determined

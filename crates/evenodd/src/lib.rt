@@ -1,6 +1,7 @@
-// Stripes kept in the EVENODD code: encode, check, restore, locate, rewrite and show. Nothing here asks anything of its caller: bad input is
+// Stripes kept in the EVENODD code: encode, check, restore, locate, rewrite, change and show. Nothing here asks anything of its caller: bad input is
 // refused by number, and a refused call changes no byte that was lent. Refusals, maps and shapes are handed on from the crates below.
 mod blank;
+mod changes;
 mod checks;
 mod encodes;
 mod locates;
@@ -8,6 +9,8 @@ mod restores;
 mod rewrites;
 mod shows;
 
+pub use changes::Changed;
+pub use changes::change;
 pub use checks::Checked;
 pub use checks::check;
 pub use encodes::Encoded;

@@ -7,9 +7,12 @@
 --   contradictedBut m k b u s     5: no valid stripe agrees with every column of s but u
 --   unmendable m k b s            6: no valid stripe differs from s in at most one column
 --   noSuchColumn k column         7: the shape has no column of that number
+--   noDataColumn k column         7: the shape has no data column of that number
 --   strayColumn k map             9: a place at or above k + 2 is present
+--   noSuchRow m row               11: a column has no row of that number
 --   wrongK m k                    12: k is 0 or above m
 --   wrongB b                      13: b is 0 or above 4,096
+--   cellLengthDiffers b n         14: a cell is not n bytes
 -- 17, and the 7 of marking a place, stand with the map (`lyingMap`, `noSuchPlace` and `placeRules`, in crates/maps/specs/Rules.antt), 8 with the shelf image's
 -- format, and 10 with the program. The orders:
 --   shapeRules     1, 12, 13: asked first by every call that is given a shape, and by the readers of an image of its header. They let exactly
@@ -20,11 +23,11 @@
 --   gapRules       1, 12, 13, 2, 3, 17, 9, 4
 --   restoreRules   1, 12, 13, 2, 3, 17, 9, 4, 5
 --   showRules      1, 12, 13, 2, 3, 17, 9, 7, 4
--- Those of locate and rewrite, which begin with `stripeRules`, stand with their promises, and those of an image's readers with the format.
+-- Those of locate, rewrite and change, which begin with `stripeRules`, stand with their promises, and those of an image's readers with the format.
 use mathlib.Core.Path.{_≡_}
 use mathlib.Core.Logic.{_≢_, _⊎_}
 use mathlib.Core.List.{List, [], _∷_, _++_}
-use Prim.Native.Nat.{ℕ, _+_, _≤_, _<_}
+use Prim.Native.Nat.{ℕ, _+_, _-_, _≤_, _<_}
 use lib.ListN.{length}
 use Rattle.parity.specs.Shape.{OddPrime, stripeLength, benchLength}
 use Rattle.parity.specs.Stripe.{Valid}
@@ -59,14 +62,23 @@ unmendable m k b s = record { condition = (v : List ℕ) → Valid m k b v → d
 abbrev pub noSuchColumn : ℕ → ℕ → Rule
 noSuchColumn k column = record { condition = k + 2 ≤ column; refusal = refusal.NoSuchColumn }
 
+abbrev pub noDataColumn : ℕ → ℕ → Rule
+noDataColumn k column = record { condition = k ≤ column; refusal = refusal.NoSuchColumn }
+
 abbrev pub strayColumn : ℕ → Map → Rule
 strayColumn k map = record { condition = Stray k (map .places); refusal = refusal.StrayColumn }
+
+abbrev pub noSuchRow : ℕ → ℕ → Rule
+noSuchRow m row = record { condition = m - 1 ≤ row; refusal = refusal.NoSuchRow }
 
 abbrev pub wrongK : ℕ → ℕ → Rule
 wrongK m k = record { condition = (k ≡ 0) ⊎ (m < k); refusal = refusal.WrongK }
 
 abbrev pub wrongB : ℕ → Rule
 wrongB b = record { condition = (b ≡ 0) ⊎ (4096 < b); refusal = refusal.WrongB }
+
+abbrev pub cellLengthDiffers : ℕ → ℕ → Rule
+cellLengthDiffers b n = record { condition = n ≢ b; refusal = refusal.CellLength }
 
 -- ---- the orders
 

@@ -4,13 +4,15 @@
 --   lined-same, lined-count   the same bytes, and the same rows, by another name
 --   Grown n b at w v f        v is w with f r l added at lane l of cell r, of the n cells from `at` on
 --   grown-more                one row more that was added to
+--   each-more                 one row more that the cell at `from`, which is none of them, was added to
 --   grown-none, grown-both    nothing added, and one thing added after another
 --   lined-grown               cells that were set, and then added to
 --   grown-same                the same added, by another name
 --   plus-none, plus-both      a byte that nothing was added to, and one that something was added to time after time
 use mathlib.Core.Path.{_≡_, refl, sym, ap, _∙_, subst}
+use mathlib.Core.Logic.{_⊎_, inl, inr}
 use mathlib.Core.List.{List}
-use Prim.Native.Nat.{ℕ, _+_, _*_, _<_}
+use Prim.Native.Nat.{ℕ, _+_, _*_, _≤_, _<_}
 use native.Mathlib.Omega.{arith}
 use lib.ListN.{getD}
 use Rattle.parity.specs.Xor.{_⊕_}
@@ -68,6 +70,15 @@ pub grown-more : (n b at : ℕ) (w u v : List ℕ) (f : ℕ → ℕ → ℕ) →
 grown-more n b at w u v f p q = lined-more n b at w u v (λ r l. getD w (at + (r * b + l)) 0 ⊕ f r l) p (put-same q (λ l h.
     let e : at + n * b + l ≡ at + (n * b + l) = omega arith in
     ap (λ (x : ℕ). x ⊕ f n l) (ap (λ (x : ℕ). getD u x 0) e ∙ p .after (at + (n * b + l)) (omega arith))))
+
+pub each-more : (n b at from : ℕ) (w u v : List ℕ) → (from + b ≤ at) ⊎ (at + n * b ≤ from) → Grown n b at w u (λ r l. getD w (from + l) 0)
+    → Put u v (at + n * b) b (λ l. getD u (at + n * b + l) 0 ⊕ getD u (from + l) 0) → Grown (n + 1) b at w v (λ r l. getD w (from + l) 0)
+each-more n b at from w u v apart p q = grown-more n b at w u v (λ r l. getD w (from + l) 0) p (put-same q (λ l h.
+    ap (λ (x : ℕ). getD u (at + n * b + l) 0 ⊕ x) (kept l h apart)))
+  where
+    kept : (l : ℕ) → l < b → (from + b ≤ at) ⊎ (at + n * b ≤ from) → getD u (from + l) 0 ≡ getD w (from + l) 0
+    kept l h (inl low) = p .before (from + l) (omega arith)
+    kept l h (inr high) = p .after (from + l) (omega arith)
 
 module _ (n b at : ℕ) where
   pub grown-none : (w : List ℕ) (f : ℕ → ℕ → ℕ) → ((r l : ℕ) → f r l ≡ 0) → Grown n b at w w f

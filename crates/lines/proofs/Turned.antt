@@ -5,7 +5,6 @@
 --   turned-within             two runs within one buffer, where the column that is added ends before the cells that it is added to
 --   turned-line               the row that a cell gets, as the line that goes through it has it
 --   last-cell                 where the last cell of a column stands
---   spread-next               one more cell with the last one added
 use mathlib.Core.Path.{_≡_, sym, ap, _∙_}
 use mathlib.Core.List.{List}
 use Prim.Native.Nat.{ℕ, _+_, _-_, _*_, _%_, _≤_, _<_}
@@ -22,7 +21,6 @@ use Rattle.cells.proofs.Puts.{put-none, put-count, put-same}
 use Rattle.lines.specs.Lines.{real, Sized}
 use Rattle.lines.specs.Rows.{Lined}
 use Rattle.lines.proofs.Lines.{up-around, up-straight, real-in, real-out, column-is}
-use Rattle.lines.proofs.Rows.{grown-more}
 
 module _ {m b c : ℕ} (z : Sized m b c) (at turn t : ℕ) (inside : turn < m) (w u v s : List ℕ)
     (p : Put w u (at + turn * b) ((m - 1 - turn) * b) (λ l. getD w (at + turn * b + l) 0 ⊕ getD s (t * c + l) 0))
@@ -120,12 +118,6 @@ module _ {m b c : ℕ} (z : Sized m b c) (turn : ℕ) where
 
   pub last-cell : c ≡ (m - 2) * b + b
   last-cell = let e : m - 2 + 1 ≡ m - 1 = omega (arith, z .big) in omega (arith, column-is m b c z, ap (λ (v : ℕ). v * b) e)
-
-pub spread-next : (n b d last : ℕ) (w u v : List ℕ) → d + n * b ≤ last → Lined n b d w u (λ r l. getD w (d + (r * b + l)) 0 ⊕ getD w (last + l) 0)
-    → Put u v (d + n * b) b (λ l. getD u (d + n * b + l) 0 ⊕ getD u (last + l) 0)
-    → Lined (n + 1) b d w v (λ r l. getD w (d + (r * b + l)) 0 ⊕ getD w (last + l) 0)
-spread-next n b d last w u v past p q = grown-more n b d w u v (λ _ l. getD w (last + l) 0) p (put-same q (λ l h.
-    ap (λ (x : ℕ). getD u (d + n * b + l) 0 ⊕ x) (p .after (last + l) (omega arith))))
 
 module _ (m r st shift : ℕ) (h : st < m) (k : shift < m) where
   turned-low : st < shift → back m ((r + shift) % m) st ≡ back m r (st + m - shift)

@@ -2,6 +2,7 @@
 // its number; its row goes down by one at each column, and jumps from 0 to m - 1, the imaginary row, which is zero. A line ends in a parity column: a row with
 // H's cell in that row, a diagonal with D's cell in the row of its number. Row 0 stands at the top, so a row that goes down by one is the row above.
 ghost use mathlib.Core.Path.{_≡_};
+ghost use mathlib.Core.Logic.{_⊎_};
 ghost use Prim.Native.Nat.{_+_, _*_, _-_, _≤_, _<_};
 ghost use lib.ListN.{length, getD};
 ghost use Rattle.parity.specs.Xor.{_⊕_};
@@ -250,14 +251,22 @@ pub fn add_turned_within(w: &mut [u8], at: usize, g: Grid, t: usize, turn: usize
     }
 }
 
+// Each of the n cells of w from `at` on, of b bytes, gets the cell at `from`, which is none of them, added.
+pub fn add_to_each(w: &mut [u8], at: usize, n: usize, b: usize, from: usize)
+    requires { ⌜ (at + n * b ≤ length (now w)) × (from + b ≤ length (now w)) × ((from + b ≤ at) ⊎ (at + n * b ≤ from)) ⌝ }
+    ensures { λ _. ⌜ Lined n b at (now (w .entry)) (now (w .exit)) (λ r l. getD (now (w .entry)) (at + (r * b + l)) 0 ⊕ getD (now (w .entry)) (from + l) 0) ⌝ }
+{
+    for r in 0..n {
+        cells::add_within(w, at + r * b, from, b);
+    }
+}
+
 // Each of the m - 1 cells of w from `at` on but the last gets the last one added.
 pub fn spread(w: &mut [u8], at: usize, g: Grid)
     requires { ⌜ (at + g .column ≤ length (now w)) × Sized (g .m) (g .b) (g .column) ⌝ }
     ensures { λ _. ⌜ Lined (g .m - 2) (g .b) at (now (w .entry)) (now (w .exit)) (λ r l. getD (now (w .entry)) (at + (r * g .b + l)) 0 ⊕ getD (now (w .entry)) (at + (g .m - 2) * g .b + l) 0) ⌝ }
 {
     let b = g.b;
-    let last = at + (g.m - 2) * b;
-    for r in 0..g.m - 2 {
-        cells::add_within(w, at + r * b, last, b);
-    }
+    let others = g.m - 2;
+    add_to_each(w, at, others, b, at + others * b);
 }

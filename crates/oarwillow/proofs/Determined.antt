@@ -10,17 +10,18 @@ use Rattle.parity.specs.Shape.{stripeLength, benchLength}
 use Rattle.inputs.specs.Rules.{stripeRules, restoreRules, showRules}
 use Rattle.evenodd.specs.Locates.{locateRules}
 use Rattle.evenodd.specs.Rewrites.{rewriteRules}
+use Rattle.evenodd.specs.Changes.{changeRules}
 use Rattle.image.specs.Reads.{contentsRules, readRules}
 use Rattle.refusals.proofs.Rules.{never-number, equal-of}
 use Rattle.maps.specs.Determined.{OfBytesOne, AsBytesOne, FindsGapsOne}
 use Rattle.maps.proofs.Determined.{of-bytes-one, as-bytes-one, finds-gaps-one}
-use Rattle.evenodd.specs.Determined.{PlacesOne, RestoresOne, LocatesOne, RewritesOne, EncodesOne, ChecksOne}
-use Rattle.evenodd.proofs.Determined.{places-one, restores-one, locates-one, rewrites-one, encodes-one, checks-one}
+use Rattle.evenodd.specs.Determined.{PlacesOne, RestoresOne, LocatesOne, RewritesOne, ChangesOne, EncodesOne, ChecksOne}
+use Rattle.evenodd.proofs.Determined.{places-one, restores-one, locates-one, rewrites-one, changes-one, encodes-one, checks-one}
 use Rattle.image.specs.declared.answers.Contents.{Contents}
 use Rattle.image.specs.Determined.{ContentsOne, ReadsOne}
 use Rattle.image.proofs.Determined.{contents-one, reads-one}
-use Rattle.oarwillow.specs.Calls.{EncodeGives, CheckGives, RestoreGives, LocateGives, RewriteGives, ShowGives, ContentsWritten, ContentsGives, ReadGives}
-use Rattle.oarwillow.specs.Determined.{EncodeGivesOne, CheckGivesOne, RestoreGivesOne, LocateGivesOne, RewriteGivesOne, ShowGivesOne, ContentsGivesOne, ReadGivesOne, GapsGivesOne, StripeLengthGivesOne, BenchLengthGivesOne, NeverLying}
+use Rattle.oarwillow.specs.Calls.{EncodeGives, CheckGives, RestoreGives, LocateGives, RewriteGives, ChangeGives, ShowGives, ContentsWritten, ContentsGives, ReadGives}
+use Rattle.oarwillow.specs.Determined.{EncodeGivesOne, CheckGivesOne, RestoreGivesOne, LocateGivesOne, RewriteGivesOne, ChangeGivesOne, ShowGivesOne, ContentsGivesOne, ReadGivesOne, GapsGivesOne, StripeLengthGivesOne, BenchLengthGivesOne, NeverLying}
 
 pub encode-gives-one : EncodeGivesOne
 unfolding EncodeGivesOne EncodesOne
@@ -51,6 +52,12 @@ pub rewrite-gives-one : RewriteGivesOne
 unfolding RewriteGivesOne RewritesOne
 rewrite-gives-one m k b s after after′ column r r′ p q =
     let (e, bytes) = rewrites-one m k b column s after after′ (p .answer) (q .answer) (p .meets) (q .meets) in
+    (bytes, cc)
+
+pub change-gives-one : ChangeGivesOne
+unfolding ChangeGivesOne ChangesOne
+change-gives-one m k b s after after′ column row cell r r′ p q =
+    let (e, bytes) = changes-one m k b column row cell s after after′ (p .answer) (q .answer) (p .meets) (q .meets) in
     (bytes, cc)
 
 pub show-gives-one : ShowGivesOne
@@ -116,6 +123,9 @@ never-lying = (encoded, checked, located, rewritten, said, taken, restored, show
 
     rewritten : (m k b : ℕ) (s after : List ℕ) (column r : ℕ) → RewriteGives m k b s after column r → r ≢ 17
     rewritten m k b s after column r p e = never-number 17 (rewriteRules m k b column s) _ (omega arith) (λ q. absurd (omega arith), (λ q. absurd (omega arith), (λ q. absurd (omega arith), (λ q. absurd (omega arith), (λ q. absurd (omega arith), (λ q. absurd (omega arith), tt)))))) (p .meets .told) (sym (p .number) ∙ e)
+
+    changed : (m k b : ℕ) (s after : List ℕ) (column row : ℕ) (cell : List ℕ) (r : ℕ) → ChangeGives m k b s after column row cell r → r ≢ 17
+    changed m k b s after column row cell r p e = never-number 17 (changeRules m k b column row cell s) _ (omega arith) (λ q. absurd (omega arith), (λ q. absurd (omega arith), (λ q. absurd (omega arith), (λ q. absurd (omega arith), (λ q. absurd (omega arith), (λ q. absurd (omega arith), (λ q. absurd (omega arith), tt))))))) (p .meets .told) (sym (p .number) ∙ e)
 
     said : (image places : List ℕ) (x y z r : ℕ) → ContentsGives image places x y z r → r ≢ 17
     said image places x y z r p e = never-number 17 (contentsRules image) _ (omega arith) (λ q. absurd (omega arith), (λ q. absurd (omega arith), (λ q. absurd (omega arith), (λ q. absurd (omega arith), (λ q. absurd (omega arith), tt))))) (p .meets .told) (sym (p .written .number) ∙ e)

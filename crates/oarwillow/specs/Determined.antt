@@ -5,7 +5,7 @@ use mathlib.Core.Path.{_≡_}
 use mathlib.Core.Logic.{_≢_}
 use mathlib.Core.List.{List}
 use Prim.Native.Nat.{ℕ}
-use Rattle.oarwillow.specs.Calls.{EncodeGives, CheckGives, RestoreGives, LocateGives, RewriteGives, ShowGives, ContentsGives, ReadGives, GapsGives, StripeLengthGives, BenchLengthGives}
+use Rattle.oarwillow.specs.Calls.{EncodeGives, CheckGives, RestoreGives, LocateGives, RewriteGives, ChangeGives, ShowGives, ContentsGives, ReadGives, GapsGives, StripeLengthGives, BenchLengthGives}
 
 unfoldable pub EncodeGivesOne : Type 0
 EncodeGivesOne = (m k b : ℕ) (s after after′ : List ℕ) (r r′ : ℕ) → EncodeGives m k b s after r → EncodeGives m k b s after′ r′ → (after ≡ after′) × (r ≡ r′)
@@ -24,6 +24,10 @@ LocateGivesOne = (m k b : ℕ) (s : List ℕ) (x y r x′ y′ r′ : ℕ) → L
 
 unfoldable pub RewriteGivesOne : Type 0
 RewriteGivesOne = (m k b : ℕ) (s after after′ : List ℕ) (column r r′ : ℕ) → RewriteGives m k b s after column r → RewriteGives m k b s after′ column r′ → (after ≡ after′) × (r ≡ r′)
+
+unfoldable pub ChangeGivesOne : Type 0
+ChangeGivesOne = (m k b : ℕ) (s after after′ : List ℕ) (column row : ℕ) (cell : List ℕ) (r r′ : ℕ)
+    → ChangeGives m k b s after column row cell r → ChangeGives m k b s after′ column row cell r′ → (after ≡ after′) × (r ≡ r′)
 
 unfoldable pub ShowGivesOne : Type 0
 ShowGivesOne = (m k b : ℕ) (places s bench : List ℕ) (column x y n r x′ y′ n′ r′ : ℕ)
@@ -56,6 +60,7 @@ NeverLying =
     × ((m k b : ℕ) (s : List ℕ) (x y z r : ℕ) → CheckGives m k b s x y z r → r ≢ 17)
     × ((m k b : ℕ) (s : List ℕ) (x y r : ℕ) → LocateGives m k b s x y r → r ≢ 17)
     × ((m k b : ℕ) (s after : List ℕ) (column r : ℕ) → RewriteGives m k b s after column r → r ≢ 17)
+    × ((m k b : ℕ) (s after : List ℕ) (column row : ℕ) (cell : List ℕ) (r : ℕ) → ChangeGives m k b s after column row cell r → r ≢ 17)
     × ((image places : List ℕ) (x y z r : ℕ) → ContentsGives image places x y z r → r ≢ 17)
     × ((image s after places : List ℕ) (x y z r : ℕ) → ReadGives image s after places x y z r → r ≢ 17)
     × ((m k b : ℕ) (places s bench after : List ℕ) (n x y r : ℕ) → RestoreGives m k b places s bench after n x y r → r ≢ 17)

@@ -1,5 +1,6 @@
 // The calls for programs in C, as include/oarwillow.h has them. Each hands its arguments on, returns the number of the refusal or 0,
 // and writes its other results behind the pointers, on a refusal too. The two lengths are returned themselves, and are 0 for numbers outside their rules.
+use evenodd::Changed;
 use evenodd::Checked;
 use evenodd::Encoded;
 use evenodd::Judged;
@@ -12,7 +13,7 @@ use image::Contents;
 use image::Read;
 ghost use mathlib.Core.Path.{_≡_};
 ghost use Prim.Native.Nat.{_+_, _≤_, _<_};
-ghost use Rattle.oarwillow.specs.Calls.{EncodeGives, CheckGives, RestoreGives, LocateGives, RewriteGives, ShowGives, ContentsWritten, ContentsGives, ReadGives, GapsGives, StripeLengthGives, BenchLengthGives};
+ghost use Rattle.oarwillow.specs.Calls.{EncodeGives, CheckGives, RestoreGives, LocateGives, RewriteGives, ChangeGives, ShowGives, ContentsWritten, ContentsGives, ReadGives, GapsGives, StripeLengthGives, BenchLengthGives};
 
 // Writes H and D.
 #[no_mangle]
@@ -128,6 +129,25 @@ pub extern "C" fn oarwillow_rewrite(
     match evenodd::rewrite(m, k, b, stripe, column) {
         Rewritten::Done => 0,
         Rewritten::Refused(r) => r.number(),
+    }
+}
+
+// Changes one cell of a data column.
+#[no_mangle]
+pub extern "C" fn oarwillow_change(
+    m: usize,
+    k: usize,
+    b: usize,
+    stripe: &mut [u8],
+    column: usize,
+    row: usize,
+    cell: &[u8],
+) -> u8
+    ensures { λ r. ⌜ ChangeGives m k b (now (stripe .entry)) (now (stripe .exit)) column row (now (cell .entry)) r ⌝ }
+{
+    match evenodd::change(m, k, b, stripe, column, row, cell) {
+        Changed::Done => 0,
+        Changed::Refused(r) => r.number(),
     }
 }
 

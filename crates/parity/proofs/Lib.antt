@@ -22,3 +22,4 @@ pub mod Test
 pub mod Numbers
 pub mod Fits
 pub mod Suspects
+pub mod Change

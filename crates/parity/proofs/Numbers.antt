@@ -1,4 +1,4 @@
--- The numbers C1 to C11, and two more. Each claim has a test, the tests of all the claims are computed at once, and a claim whose test passes is true.
+-- The numbers C1 to C11, and others. Each claim has a test, the tests of all the claims are computed at once, and a claim whose test passes is true.
 -- Where a claim is about every valid stripe, its test is of the candidates, the only stripes that could be valid.
 --   shape? … unlike?   tests, and their meanings: shape-sound … unlike-sound
 --   test, tests        the test of a claim, and of a list of claims
@@ -21,8 +21,9 @@ use Rattle.parity.specs.Shape.{accepted, member, Shape, columnLength, st
 use Rattle.parity.specs.Equations.{cell, back, H, S, D, amountH, amountD, Holds}
 use Rattle.parity.specs.Stripe.{byte, lane, Valid, brokenRows, brokenDiagonals}
 use Rattle.parity.specs.Presence.{present, absences, differs, differing, Agrees}
+use Rattle.parity.specs.Change.{standsInD, depends}
 use Rattle.parity.specs.Theorems.{Table, AtMostOne}
-use Rattle.parity.specs.Numbers.{Claim, valid, special, agreeing, contradicted, ambiguous, counted, wrong, unmendable, intact, blank, Means, All, numbers, Numbers}
+use Rattle.parity.specs.Numbers.{Claim, valid, special, agreeing, contradicted, ambiguous, counted, wrong, unmendable, intact, blank, changed, Means, All, numbers, Numbers}
 use Rattle.parity.specs.Candidate.{candidate}
 use Rattle.parity.proofs.Count.{one-pass}
 use Rattle.parity.proofs.Bytes.{zeros-past, zeros-blank}
@@ -68,13 +69,18 @@ test (intact m k b s) =
     both (both (equal (brokenRows m k b s) 0) (equal (brokenDiagonals m k b s) 0)) (any b (λ l. any (m - 1) (λ i. any (k + 2) (λ t. unequal (byte m b s l i t) 0))))
 test (blank m k b s) =
     both (both (every (length s) (λ x. equal (getD s x 0) 0)) (valid? m k b s)) (both (equal (brokenRows m k b s) 0) (equal (brokenDiagonals m k b s) 0))
+test (changed m k b column row cell s v) =
+    both (both (equal (length v) (length s)) (every b (λ l. equal (byte m b v l row column) (getD cell l 0))))
+    (every b (λ l. every (m - 1) (λ i.
+    both (both (equal (amountH m k (lane m b v l) i) (amountH m k (lane m b s l) i)) (equal (amountD m k (lane m b v l) i) (amountD m k (lane m b s l) i)))
+    (every (k + 2) (λ t. orElse (is (depends m k column row i t) true) (equal (byte m b v l i t) (byte m b s l i t)))))))
 
 tests : List Claim → Test
 tests [] = atMost 0 0
 tests (c ∷ cs) = both (test c) (tests cs)
 
 computed : passes (tests numbers) ≡ true
-unfolding passes tests test candidate byte columnLength stripeLength brokenRows brokenDiagonals present absences differs cell back H S D amountH amountD sum count some _⊕_
+unfolding passes tests test candidate byte columnLength stripeLength brokenRows brokenDiagonals present absences differs cell back H S D amountH amountD sum count some _⊕_ standsInD depends
 computed = refl
 
 module _ (m k b : ℕ) where
@@ -138,6 +144,12 @@ module _ (table : Table) (at-most-one : AtMostOne) where
     some = record { l = l; i = i; t = t; inside = (hl, hi, ht); there = there };
   }
   sound (blank m k b s) ((zeros, good), (rows, diagonals)) = (zeros-blank m k b s (zeros-past s zeros), valid-sound m k b s good, rows, diagonals)
+  sound (changed m k b column row cell s v) ((size, new), each) = record {
+    size = size;
+    new = new;
+    amounts = record { rows = λ l i hl hi. each l hl i hi .0 .0; diagonals = λ l i hl hi. each l hl i hi .0 .1 };
+    stays = λ l i t hl hi ht alone. each l hl i hi .1 t ht (λ e. true≢false (sym e ∙ alone));
+  }
 
   all-sound : (cs : List Claim) → Says (tests cs) → All cs
   unfolding tests

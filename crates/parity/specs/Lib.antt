@@ -6,5 +6,6 @@ pub mod Equations
 pub mod Stripe
 pub mod Presence
 pub mod Candidate
+pub mod Change
 pub mod Theorems
 pub mod Numbers

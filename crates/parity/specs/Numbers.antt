@@ -1,4 +1,4 @@
--- The numbers C1 to C11, and two more, as claims about the definitions.
+-- The numbers C1 to C11, and others of ours, as claims about the definitions.
 use mathlib.Core.Path.{_≡_}
 use mathlib.Core.Logic.{_≢_}
 use mathlib.Core.Bool.{Bool, true, false}
@@ -9,6 +9,7 @@ use lib.ListN.{getD}
 use Rattle.parity.specs.Equations.{S}
 use Rattle.parity.specs.Stripe.{lane, Valid, brokenRows, brokenDiagonals, Blank, Intact}
 use Rattle.parity.specs.Presence.{absences, differing, DifferIn, Agrees}
+use Rattle.parity.specs.Change.{CellChanged}
 
 -- a shape's m, k and b come first
 pub data Claim : Type 0 where
@@ -32,6 +33,8 @@ pub data Claim : Type 0 where
   intact : ℕ → ℕ → ℕ → List ℕ → Claim
   -- the stripe is blank: it is valid, and no row or diagonal breaks
   blank : ℕ → ℕ → ℕ → List ℕ → Claim
+  -- with the cell in that row of that column (the column is named first) changed to this one, the first stripe becomes the second
+  changed : ℕ → ℕ → ℕ → ℕ → ℕ → List ℕ → List ℕ → List ℕ → Claim
 
 abbrev pub Means : Claim → Type 0
 Means (valid m k b s) = Valid m k b s
@@ -46,6 +49,7 @@ Means (wrong m k b s u v) = Valid m k b v × DifferIn m k b (eqb u) s v
 Means (unmendable m k b s) = (v : List ℕ) → Valid m k b v → 2 ≤ differing m k b s v
 Means (intact m k b s) = Intact m k b s
 Means (blank m k b s) = Blank m k b s × Valid m k b s × (brokenRows m k b s ≡ 0) × (brokenDiagonals m k b s ≡ 0)
+Means (changed m k b column row cell s v) = CellChanged m k b column row cell s v
 
 abbrev pub All : List Claim → Type 0
 All [] = Unit {0}
@@ -78,11 +82,18 @@ numbers =
     ∷ ambiguous 3 3 1 (false ∷ false ∷ false ∷ true ∷ true ∷ []) (0xff ∷ 0xff ∷ 0xff ∷ 0xff ∷ 0xff ∷ 0xff ∷ 0x15 ∷ 0x2a ∷ 0x39 ∷ 0x1e ∷ []) (0x01 ∷ 0x02 ∷ 0x04 ∷ 0x08 ∷ 0x10 ∷ 0x20 ∷ 0x15 ∷ 0x2a ∷ 0x39 ∷ 0x1e ∷ []) (0x01 ∷ 0x03 ∷ 0x05 ∷ 0x09 ∷ 0x11 ∷ 0x20 ∷ 0x15 ∷ 0x2a ∷ 0x39 ∷ 0x1e ∷ [])
     -- C11
     ∷ blank 3 3 1 (0 ∷ 0 ∷ 0 ∷ 0 ∷ 0 ∷ 0 ∷ 0 ∷ 0 ∷ 0 ∷ 0 ∷ [])
-    -- two more, ours. C1 is intact
+    -- ours. C1 is intact
     ∷ intact 3 3 1 (0x01 ∷ 0x02 ∷ 0x04 ∷ 0x08 ∷ 0x10 ∷ 0x20 ∷ 0x15 ∷ 0x2a ∷ 0x39 ∷ 0x1e ∷ [])
     -- C1 in two lanes, of which the first is wrong in column 0 and the second in column 1. No column is wrong in both
     ∷ counted 3 3 2 (0x00 ∷ 0x01 ∷ 0x02 ∷ 0x02 ∷ 0x04 ∷ 0x05 ∷ 0x08 ∷ 0x08 ∷ 0x10 ∷ 0x10 ∷ 0x20 ∷ 0x20 ∷ 0x15 ∷ 0x15 ∷ 0x2a ∷ 0x2a ∷ 0x39 ∷ 0x39 ∷ 0x1e ∷ 0x1e ∷ []) 1 2
     ∷ unmendable 3 3 2 (0x00 ∷ 0x01 ∷ 0x02 ∷ 0x02 ∷ 0x04 ∷ 0x05 ∷ 0x08 ∷ 0x08 ∷ 0x10 ∷ 0x10 ∷ 0x20 ∷ 0x20 ∷ 0x15 ∷ 0x15 ∷ 0x2a ∷ 0x2a ∷ 0x39 ∷ 0x39 ∷ 0x1e ∷ 0x1e ∷ [])
+    -- C1 with a cell changed: on diagonal 1, on diagonal 0, which it reaches from row 2 by the wrap, and on the diagonal of S
+    ∷ changed 3 3 1 1 0 (0xff ∷ []) (0x01 ∷ 0x02 ∷ 0x04 ∷ 0x08 ∷ 0x10 ∷ 0x20 ∷ 0x15 ∷ 0x2a ∷ 0x39 ∷ 0x1e ∷ []) (0x01 ∷ 0x02 ∷ 0xff ∷ 0x08 ∷ 0x10 ∷ 0x20 ∷ 0xee ∷ 0x2a ∷ 0x39 ∷ 0xe5 ∷ [])
+    ∷ changed 3 3 1 2 1 (0xff ∷ []) (0x01 ∷ 0x02 ∷ 0x04 ∷ 0x08 ∷ 0x10 ∷ 0x20 ∷ 0x15 ∷ 0x2a ∷ 0x39 ∷ 0x1e ∷ []) (0x01 ∷ 0x02 ∷ 0x04 ∷ 0x08 ∷ 0x10 ∷ 0xff ∷ 0x15 ∷ 0xf5 ∷ 0xe6 ∷ 0x1e ∷ [])
+    ∷ changed 3 3 1 1 1 (0xff ∷ []) (0x01 ∷ 0x02 ∷ 0x04 ∷ 0x08 ∷ 0x10 ∷ 0x20 ∷ 0x15 ∷ 0x2a ∷ 0x39 ∷ 0x1e ∷ []) (0x01 ∷ 0x02 ∷ 0x04 ∷ 0xff ∷ 0x10 ∷ 0x20 ∷ 0x15 ∷ 0xdd ∷ 0xce ∷ 0xe9 ∷ [])
+    -- C8 with the wrong cell changed to what it was in C1: the damage stays
+    ∷ changed 3 3 1 1 0 (0x04 ∷ []) (0x01 ∷ 0x02 ∷ 0x05 ∷ 0x08 ∷ 0x10 ∷ 0x20 ∷ 0x15 ∷ 0x2a ∷ 0x39 ∷ 0x1e ∷ []) (0x01 ∷ 0x02 ∷ 0x04 ∷ 0x08 ∷ 0x10 ∷ 0x20 ∷ 0x14 ∷ 0x2a ∷ 0x39 ∷ 0x1f ∷ [])
+    ∷ counted 3 3 1 (0x01 ∷ 0x02 ∷ 0x04 ∷ 0x08 ∷ 0x10 ∷ 0x20 ∷ 0x14 ∷ 0x2a ∷ 0x39 ∷ 0x1f ∷ []) 1 1
     ∷ []
 
 unfoldable pub Numbers : Type 0

@@ -9,7 +9,7 @@ use mathlib.Core.Logic.{_⊎_}
 use mathlib.Core.List.{List, [], _∷_}
 use Prim.Native.Nat.{ℕ}
 use Rattle.refusals.specs.declared.Refusal.{Refusal}
-use Rattle.refusals.specs.declared.Refusal.the-variants.{WrongM, StripeLength, BenchLength, Ambiguous, Contradicted, Unmendable, NoSuchColumn, Malformed, StrayColumn, TooLong, WrongK, WrongB, LyingMap}
+use Rattle.refusals.specs.declared.Refusal.the-variants.{WrongM, StripeLength, BenchLength, Ambiguous, Contradicted, Unmendable, NoSuchColumn, Malformed, StrayColumn, TooLong, NoSuchRow, WrongK, WrongB, CellLength, LyingMap}
 
 abbrev pub numberOf : Refusal → ℕ
 numberOf WrongM = 1
@@ -22,8 +22,10 @@ numberOf NoSuchColumn = 7
 numberOf Malformed = 8
 numberOf StrayColumn = 9
 numberOf TooLong = 10
+numberOf NoSuchRow = 11
 numberOf WrongK = 12
 numberOf WrongB = 13
+numberOf CellLength = 14
 numberOf LyingMap = 17
 
 pub data Verdict : Type 0 where

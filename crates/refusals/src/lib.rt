@@ -14,13 +14,15 @@ pub enum Refusal {
     Malformed,
     StrayColumn,
     TooLong,
+    NoSuchRow,
     WrongK,
     WrongB,
+    CellLength,
     LyingMap,
 }
 
 impl Refusal {
-    // The refusal's number: 1 to 10, 12, 13 or 17, and no other.
+    // The refusal's number: 1 to 14 or 17, and no other.
     pub fn number(self) -> u8
         ensures { λ r. ⌜ r ≡ numberOf self ⌝ }
     {
@@ -35,8 +37,10 @@ impl Refusal {
             Refusal::Malformed => 8,
             Refusal::StrayColumn => 9,
             Refusal::TooLong => 10,
+            Refusal::NoSuchRow => 11,
             Refusal::WrongK => 12,
             Refusal::WrongB => 13,
+            Refusal::CellLength => 14,
             Refusal::LyingMap => 17,
         }
     }
