@@ -166,8 +166,8 @@ fn changes() -> Vec<Number> {
         ask("C8,change", format!("locate 3 3 1 {C8_CHANGED}"), s("0 4 1")),
         // With one data column S=0, and H and D are equal to it.
         changed("C2,change", "3 1 1", "010201020102", [0, 1], "ff", "0 01ff01ff01ff"),
-        // It is on the diagonal of S. The cell is 00 already, and so nothing changes.
-        changed("C3,change", "5 5 1", C3, [3, 1], "00", &format!("0 {C3}")),
+        // It is on the diagonal of S, and the cell is 00: H(1)=01+01=00, and each cell of D becomes what it was plus 01.
+        changed("C3,change", "5 5 1", C3, [3, 1], "01", "0 00000000000000010100010100010001010101000000000100000100"),
         // The cell is 00. H(3)=01+ff=fe. Row 3 and column 4 are 2 modulo 5: D(2)=00+ff=ff.
         changed("C3,change,wrap", "5 5 1", C3, [4, 3], "ff", "0 00000000000000010100010100000001010101ff000100fe0101ff01"),
         // On the diagonal of S: H(0)=ff, D(0)=ff, D(1)=ff.

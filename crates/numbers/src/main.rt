@@ -1,4 +1,4 @@
-// Runs every number that the document gives to hold against the build, and more of blank stripes, of two wrong columns, of wrong shapes, of lengths and of gaps, and prints what the library answers, one line each. What is printed is
+// Runs every number that the document gives to hold against the build, and more of blank stripes, of two wrong columns, of changed cells, of wrong shapes, of lengths and of gaps, and prints what the library answers, one line each. What is printed is
 // compared with the stored text.
 mod others;
 
@@ -48,9 +48,10 @@ fn main() {
     let first = proved_cases(&mut out, 0);
     let second = cases::blank_lines(&mut out, first);
     let third = cases::two_wrong_lines(&mut out, second);
-    let fourth = cases::shape_lines(&mut out, third);
-    let fifth = other_cases(&mut out, fourth);
-    let end = image_cases(&mut out, fifth);
+    let fourth = change_cases::change_lines(&mut out, third);
+    let fifth = cases::shape_lines(&mut out, fourth);
+    let sixth = other_cases(&mut out, fifth);
+    let end = image_cases(&mut out, sixth);
     if end <= 8192 {
         io::write_all(1, &out[0..end]);
     }

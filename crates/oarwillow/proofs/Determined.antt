@@ -110,7 +110,7 @@ bench-length-gives-one m b r r′ p q = length-one (benchLength m b) r r′ (p .
 
 pub never-lying : NeverLying
 unfolding NeverLying
-never-lying = (encoded, checked, located, rewritten, said, taken, restored, shown)
+never-lying = (encoded, checked, located, rewritten, changed, said, taken, restored, shown)
   where
     encoded : (m k b : ℕ) (s after : List ℕ) (r : ℕ) → EncodeGives m k b s after r → r ≢ 17
     encoded m k b s after r p e = never-number 17 (stripeRules m k b (length s)) _ (omega arith) (λ q. absurd (omega arith), (λ q. absurd (omega arith), (λ q. absurd (omega arith), (λ q. absurd (omega arith), tt)))) (p .meets .told) (sym (p .number) ∙ e)

@@ -1,4 +1,5 @@
 // A line for each operation, in the form `CASE OPERATION ANSWER`. Each function answers the place after its text, which has a greatest length.
+use evenodd::Changed;
 use evenodd::Checked;
 use evenodd::Encoded;
 use evenodd::Located;
@@ -216,5 +217,33 @@ pub fn rewrite_line(
     let first = say_head(out, at, name, b" rewrite");
     let answer = evenodd::rewrite(shape[0], shape[1], shape[2], stripe, column);
     let second = say_rewritten(out, first, answer);
+    say_last(out, second, stripe)
+}
+
+fn say_changed(out: &mut [u8], at: usize, answer: Changed) -> usize
+    ensures { λ r. ⌜ (at ≤ r) × (r ≤ at + 5) ⌝ }
+{
+    match answer {
+        Changed::Done => say_number(out, at, 0),
+        Changed::Refused(f) => say_number(out, at, f.number() as usize),
+    }
+}
+
+// Changes one cell: the answer and the stripe.
+pub fn change_line(
+    out: &mut [u8],
+    at: usize,
+    name: &[u8],
+    shape: [usize; 3],
+    stripe: &mut [u8],
+    column: usize,
+    row: usize,
+    cell: &[u8],
+) -> usize
+    ensures { λ r. ⌜ (at ≤ r) × (r ≤ at + (length (now (name .entry)) + 214)) ⌝ }
+{
+    let first = say_head(out, at, name, b" change");
+    let answer = evenodd::change(shape[0], shape[1], shape[2], stripe, column, row, cell);
+    let second = say_changed(out, first, answer);
     say_last(out, second, stripe)
 }
