@@ -14,7 +14,11 @@ static void die(const char *what, const struct shape *p) {
 
 static uint8_t *pools[POOLS], *copies;
 static void copy(const struct shape *p, uint8_t *slot) { memcpy(copies + (slot - pools[PACKED]), slot, p->k * p->col); }
-
+/* beside a change: the one cell */
+static void copy_cell(const struct shape *p, uint8_t *slot) {
+    struct cell c = next_cell(p, CHANGE);
+    memcpy(slot + c.column * p->col + c.row * p->b, c.bytes, p->b);
+}
 
 enum { FIRST = OWNS, MEMCPY = FIRST + OTHERS, OWN, OWN_CHECK, RIVALS };
 #ifdef __x86_64__
@@ -23,7 +27,7 @@ enum { PQ_TO_REACH = FIRST + PQ_SSE }; /* P+Q with the instructions that the lib
 enum { PQ_TO_REACH = FIRST + PQ };
 #endif
 static struct rival rivals[RIVALS] = {
-    [MEMCPY] = {"memcpy", PACKED, {copy, copy, copy, copy, copy, copy, copy, copy, copy}},
+    [MEMCPY] = {"memcpy", PACKED, {copy, copy, copy, copy, copy, copy, copy, copy, copy, copy_cell, copy_cell}},
     [OWN] = {"own-encode", PACKED, {0}}, /* main gives it the library's encode beside every other operation */
     [OWN_CHECK] = {"own-check", PACKED, {0}}, /* and this the library's check beside INTACT, BLANK and BLANK_LOCATE */
 };
@@ -38,6 +42,8 @@ static double goal(const struct shape *p, enum op op, int rival) {
     if (op == INTACT && rival == OWN_CHECK) return wide ? 0.97 : 0; /* 1, but for noise */
     if ((op == BLANK || op == BLANK_LOCATE) && rival == OWN_CHECK) return wide ? 1 / 1.3 : 0;
     if (op == INTACT || op == BLANK || op == BLANK_LOCATE || rival != OWN) return 0;
+    if (op == CHANGE) return p->b == 4096 ? (double)((p->m - 1) * p->k) / 8 : 0;
+    if (op == CHANGE_S) return p->b == 4096 ? (double)p->k / 4 : 0;
     return op == CHECK ? (wide ? 0.8 : 0) : op == ONE ? 0.45 : op == TWO ? (wide && p->k >= 10 ? 0.8 : 0.5) : wide ? 0.45 : 0;
 }
 

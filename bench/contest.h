@@ -8,10 +8,11 @@
 void plain_encode(size_t m, size_t k, size_t b, uint8_t *stripe);
 void plain_check(size_t m, size_t k, size_t b, const uint8_t *stripe, size_t *rows, size_t *diagonals);
 void plain_restore(size_t m, size_t k, size_t b, size_t u, size_t v, const uint8_t *stripe, uint8_t *bench);
+void plain_change(size_t m, size_t k, size_t b, uint8_t *stripe, size_t column, size_t row, const uint8_t *cell);
 void registers_encode(size_t m, size_t k, size_t b, uint8_t *stripe);
 void registers_check(size_t m, size_t k, size_t b, const uint8_t *stripe, size_t *rows, size_t *diagonals);
 
-enum op { ENCODE, CHECK, ONE, TWO, INTACT, LOCATE, REWRITE, BLANK, BLANK_LOCATE, OPS };
+enum op { ENCODE, CHECK, ONE, TWO, INTACT, LOCATE, REWRITE, BLANK, BLANK_LOCATE, CHANGE, CHANGE_S, OPS };
 
 /* A shape with what follows from it. Columns lie `col` bytes apart in pool PACKED, as the library wants them, and `pitch` bytes apart
    in pool PADDED, a multiple of 64, as ISA-L wants them. A slot of either is k+2 columns of a stripe and two of a bench. Pool WRONG is
@@ -42,6 +43,14 @@ enum { OURS, PLAIN, REGISTERS, OWNS };
 extern struct rival owns[OWNS];
 extern uint8_t refused; /* not 0 once the library has refused a call, or found what is not so */
 work spoil;
+
+/* The cell of the next CHANGE, which lies on no diagonal of S, or of the next CHANGE_S, which does; and the bytes that it is to hold, others
+   each time. One call goes on to the next column, so that in a stripe that is in no cache the cell is not either. */
+struct cell {
+    size_t column, row;
+    const uint8_t *bytes;
+};
+struct cell next_cell(const struct shape *, enum op);
 const char *own_check(const struct shape *, uint8_t *slot, uint8_t *good);
 
 /* rivals.c: codes of others. `rivals_prepare` makes their tables for a shape and clears the operations that they lack there;

@@ -1,5 +1,6 @@
 /* The contestants of this side: the library, plain.c and registers.c; the shapes, and the check of their bytes. */
 #include "contest.h"
+#include <stdlib.h>
 #include <string.h>
 #include "oarwillow.h"
 
@@ -7,7 +8,7 @@ const size_t shapes[SHAPES][3] = {
     {11, 10, 4096}, {17, 17, 4096}, {5, 5, 512},  {11, 10, 1000}, {7, 5, 100},   {13, 12, 64},  {11, 10, 16},    {61, 60, 4096},
     {127, 127, 512}, {11, 10, 1},   {5, 5, 4096}, {11, 10, 512},  {17, 17, 512}, {61, 60, 512}, {127, 127, 4096},
 };
-const char *const op_name[OPS] = {"encode", "check", "restore1", "restore2", "intact", "locate", "rewrite", "blank", "blank-loc"};
+const char *const op_name[OPS] = {"encode", "check", "restore1", "restore2", "intact", "locate", "rewrite", "blank", "blank-loc", "change", "change-s"};
 
 uint8_t refused;
 static uint8_t one_lost[129], two_lost[129];
@@ -37,6 +38,28 @@ static void our_locate(const struct shape *p, uint8_t *slot) { our_find(p, slot,
 static void our_blank(const struct shape *p, uint8_t *slot) { our_check(p, slot), refused |= found != OARWILLOW_FOUND_BLANK; }
 static void our_blank_locate(const struct shape *p, uint8_t *slot) { our_find(p, slot, OARWILLOW_FOUND_BLANK, 129); }
 static void our_rewrite(const struct shape *p, uint8_t *slot) { refused |= oarwillow_rewrite(p->m, p->k, p->b, slot, length(p), p->w); }
+struct cell next_cell(const struct shape *p, enum op op) {
+    static uint8_t bytes[2 * 4096];
+    static size_t n;
+    if (n++ == 0)
+        for (size_t j = 0; j < sizeof bytes; j++) bytes[j] = (uint8_t)(j * j >> 3);
+    struct cell c = {n % p->k, n / p->k % (p->m - 1), bytes + n % 4096};
+    if (op == CHANGE_S) c.column = 1 + n % (p->k - 1), c.row = p->m - 1 - c.column;
+    else if (c.row + c.column == p->m - 1) c.row = (c.row + 1) % (p->m - 1);
+    return c;
+}
+static void our_change_next(const struct shape *p, uint8_t *slot, enum op op) {
+    struct cell c = next_cell(p, op);
+    refused |= oarwillow_change(p->m, p->k, p->b, slot, length(p), c.column, c.row, c.bytes, p->b);
+}
+static void our_change(const struct shape *p, uint8_t *slot) { our_change_next(p, slot, CHANGE); }
+static void our_change_s(const struct shape *p, uint8_t *slot) { our_change_next(p, slot, CHANGE_S); }
+static void c_change_next(const struct shape *p, uint8_t *slot, enum op op) {
+    struct cell c = next_cell(p, op);
+    plain_change(p->m, p->k, p->b, slot, c.column, c.row, c.bytes);
+}
+static void c_change(const struct shape *p, uint8_t *slot) { c_change_next(p, slot, CHANGE); }
+static void c_change_s(const struct shape *p, uint8_t *slot) { c_change_next(p, slot, CHANGE_S); }
 static void c_encode(const struct shape *p, uint8_t *slot) { plain_encode(p->m, p->k, p->b, slot); }
 static void c_check(const struct shape *p, uint8_t *slot) { plain_check(p->m, p->k, p->b, slot, &got[0], &got[1]); }
 static void c_two(const struct shape *p, uint8_t *slot) { plain_restore(p->m, p->k, p->b, p->u, p->v, slot, slot + length(p)); }
@@ -44,8 +67,9 @@ static void r_encode(const struct shape *p, uint8_t *slot) { registers_encode(p-
 static void r_check(const struct shape *p, uint8_t *slot) { registers_check(p->m, p->k, p->b, slot, &got[0], &got[1]); }
 
 struct rival owns[OWNS] = {
-    [OURS] = {"ours", PACKED, {our_encode, our_check, our_one, our_two, our_intact, our_locate, our_rewrite, our_blank, our_blank_locate}},
-    [PLAIN] = {"plain", PACKED, {c_encode, c_check, 0, c_two}},
+    [OURS] = {"ours", PACKED, {our_encode, our_check, our_one, our_two, our_intact, our_locate, our_rewrite, our_blank, our_blank_locate,
+                               our_change, our_change_s}},
+    [PLAIN] = {"plain", PACKED, {[ENCODE] = c_encode, [CHECK] = c_check, [TWO] = c_two, [CHANGE] = c_change, [CHANGE_S] = c_change_s}},
     [REGISTERS] = {"registers", PACKED, {r_encode, r_check}},
 };
 
@@ -116,6 +140,17 @@ const char *own_check(const struct shape *p, uint8_t *slot, uint8_t *good) {
         if (run[BLANK]) {
             memset(slot, 0, n);
             run[BLANK](p, slot), run[BLANK_LOCATE](p, slot);
+            memcpy(slot, good, n);
+        }
+        if (run[CHANGE]) {
+            /* a stripe whose cells were changed is that of its data */
+            for (int n = 0; n < 64; n++) run[CHANGE](p, slot), run[CHANGE_S](p, slot);
+            uint8_t *changed = malloc(n);
+            memcpy(changed, slot, n);
+            plain_encode(p->m, p->k, p->b, changed);
+            int wrong = memcmp(slot, changed, n) || !memcmp(slot, good, n);
+            free(changed);
+            if (wrong) return "change";
             memcpy(slot, good, n);
         }
         if (refused) return "an answer";

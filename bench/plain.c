@@ -70,3 +70,14 @@ void plain_restore(size_t m, size_t k, size_t b, size_t u, size_t v, const uint8
         add_row(first + r * b, m, k, b, u, v, stripe, r);
     }
 }
+
+/* The difference of the old and the new bytes goes to all parity cells that depend on the cell. */
+void plain_change(size_t m, size_t k, size_t b, uint8_t *stripe, size_t column, size_t row, const uint8_t *cell) {
+    uint8_t *old = stripe + (column * (m - 1) + row) * b, *h = stripe + k * (m - 1) * b, *d = h + (m - 1) * b, difference[4096];
+    size_t own = (row + column) % m;
+    memcpy(difference, cell, b);
+    add(difference, old, b);
+    memcpy(old, cell, b);
+    add(h + row * b, difference, b);
+    for (size_t i = own == m - 1 ? 0 : own; i < (own == m - 1 ? m - 1 : own + 1); i++) add(d + i * b, difference, b);
+}

@@ -40,7 +40,22 @@ static void rs_survivors(const struct shape *p, enum op op, uint8_t **c) {
 RS_WORK(rs_encode, ENCODE, ec_encode_data)
 RS_WORK(rs_one, ONE, ec_encode_data)
 RS_WORK(rs_two, TWO, ec_encode_data)
+/* The difference of the old and the new bytes of a cell goes to the same bytes of both parities. */
+#define RS_CHANGE(name, op, call)                                                                                       \
+    static void name(const struct shape *p, uint8_t *slot) {                                                            \
+        static uint8_t difference[4096];                                                                                \
+        struct cell c = next_cell(p, op);                                                                               \
+        uint8_t *old = slot + c.column * p->pitch + c.row * p->b;                                                       \
+        uint8_t *parity[2] = {slot + p->k * p->pitch + c.row * p->b, slot + (p->k + 1) * p->pitch + c.row * p->b};       \
+        for (size_t j = 0; j < p->b; j++) difference[j] = old[j] ^ c.bytes[j];                                          \
+        memcpy(old, c.bytes, p->b);                                                                                     \
+        call((int)p->b, (int)p->k, 2, (int)c.column, rs_tables[0], difference, parity);                                 \
+    }
+RS_CHANGE(rs_change, CHANGE, ec_encode_data_update)
+RS_CHANGE(rs_change_s, CHANGE_S, ec_encode_data_update)
 #ifdef __x86_64__
+RS_CHANGE(rs_change_sse, CHANGE, ec_encode_data_update_sse)
+RS_CHANGE(rs_change_s_sse, CHANGE_S, ec_encode_data_update_sse)
 PQ_WORK(pq_encode_sse, pq_gen_sse)
 PQ_WORK(pq_look_sse, pq_check_sse)
 RS_WORK(rs_encode_sse, ENCODE, ec_encode_data_sse)
@@ -52,6 +67,8 @@ RS_WORK(rs_two_sse, TWO, ec_encode_data_sse)
 #define rs_encode_sse 0
 #define rs_one_sse 0
 #define rs_two_sse 0
+#define rs_change_sse 0
+#define rs_change_s_sse 0
 #endif
 
 static void rs_prepare(const struct shape *p) {
@@ -131,8 +148,8 @@ static void je_prepare(const struct shape *p) {
 struct rival others[OTHERS] = {
     [PQ_SSE] = {"pq-sse", PADDED, {pq_encode_sse, pq_look_sse}},
     [PQ] = {"pq", PADDED, {pq_encode, pq_look}},
-    [RS_SSE] = {"rs-sse", PADDED, {rs_encode_sse, 0, rs_one_sse, rs_two_sse}},
-    [RS] = {"rs", PADDED, {rs_encode, 0, rs_one, rs_two}},
+    [RS_SSE] = {"rs-sse", PADDED, {[ENCODE] = rs_encode_sse, [ONE] = rs_one_sse, [TWO] = rs_two_sse, [CHANGE] = rs_change_sse, [CHANGE_S] = rs_change_s_sse}},
+    [RS] = {"rs", PADDED, {[ENCODE] = rs_encode, [ONE] = rs_one, [TWO] = rs_two, [CHANGE] = rs_change, [CHANGE_S] = rs_change_s}},
     [EVENODD] = {"je-evenodd", PACKED, {0}},
     [BLAUM_ROTH] = {"je-blaum", PADDED, {0}},
 };
@@ -179,6 +196,16 @@ const char *rivals_check(const struct shape *p, const uint8_t *stripe, uint8_t *
             memset(slot + p->v * pitch, 0x55, col);
             x->run[TWO](p, slot);
             if (memcmp(bench, stripe + p->u * col, col) || memcmp(bench + pitch, stripe + p->v * col, col)) return x->name;
+        }
+        if (x->run[CHANGE]) { /* the parities of a stripe whose cells were changed are those of its data */
+            x->run[ENCODE](p, slot);
+            for (int n = 0; n < 64; n++) x->run[CHANGE](p, slot), x->run[CHANGE_S](p, slot);
+            uint8_t *changed = malloc(2 * pitch);
+            memcpy(changed, slot + k * pitch, 2 * pitch);
+            x->run[ENCODE](p, slot);
+            int wrong = memcmp(changed, slot + k * pitch, 2 * pitch);
+            free(changed);
+            if (wrong) return x->name;
         }
     }
     return 0;

@@ -27,7 +27,7 @@
 #include <stddef.h>
 #include <stdint.h>
 
-#define OARWILLOW_VERSION "0.9.0"
+#define OARWILLOW_VERSION "0.10.0"
 
 /* Why a call is refused. Other numbers are never given. */
 enum oarwillow_refusal {
@@ -38,12 +38,14 @@ enum oarwillow_refusal {
     OARWILLOW_AMBIGUOUS = 4,      /* three or more columns absent */
     OARWILLOW_CONTRADICTED = 5,   /* no valid stripe agrees with every column that is read: restore with at most two absent, rewrite */
     OARWILLOW_UNMENDABLE = 6,     /* locate: no valid stripe differs in at most one column */
-    OARWILLOW_NO_SUCH_COLUMN = 7, /* column number not below k + 2 */
+    OARWILLOW_NO_SUCH_COLUMN = 7, /* column number not below k + 2; in change, where it must be a data column's, not below k */
     OARWILLOW_MALFORMED = 8,      /* image malformed */
     OARWILLOW_STRAY_COLUMN = 9,   /* map has a place at or above k + 2 present */
     OARWILLOW_TOO_LONG = 10,      /* program input longer than 16,384 bytes; never from these calls */
+    OARWILLOW_NO_SUCH_ROW = 11,   /* row number not below m - 1 */
     OARWILLOW_WRONG_K = 12,       /* k is 0 or above m */
     OARWILLOW_WRONG_B = 13,       /* b is 0 or above 4,096 */
+    OARWILLOW_CELL_LENGTH = 14,   /* cell length differs from b */
     OARWILLOW_LYING_MAP = 17      /* map lies: its two numbers are not what its places say; never from these calls, for in C a map is
                                      its places alone, and its two numbers are made on the way in */
 };
@@ -59,12 +61,14 @@ static inline const char *oarwillow_reason(uint8_t number)
     case OARWILLOW_AMBIGUOUS: return "three or more columns absent";
     case OARWILLOW_CONTRADICTED: return "no valid stripe agrees with every column that is read";
     case OARWILLOW_UNMENDABLE: return "no valid stripe differs in at most one column";
-    case OARWILLOW_NO_SUCH_COLUMN: return "column number not below k + 2";
+    case OARWILLOW_NO_SUCH_COLUMN: return "column number not below k + 2, or in change not below k";
     case OARWILLOW_MALFORMED: return "image malformed";
     case OARWILLOW_STRAY_COLUMN: return "map has a place at or above k + 2 present";
     case OARWILLOW_TOO_LONG: return "program input longer than 16,384 bytes";
+    case OARWILLOW_NO_SUCH_ROW: return "row number not below m - 1";
     case OARWILLOW_WRONG_K: return "k is 0 or above m";
     case OARWILLOW_WRONG_B: return "b is 0 or above 4,096";
+    case OARWILLOW_CELL_LENGTH: return "cell length differs from b";
     case OARWILLOW_LYING_MAP: return "map lies: its two numbers are not what its places say";
     default: return "a number that is never given";
     }
@@ -113,6 +117,17 @@ uint8_t oarwillow_locate(size_t m, size_t k, size_t b, const uint8_t *stripe, si
  * three. Where two may be, keep the column's bytes first, or mark the two that you suspect absent and restore. Refusals: 1, 12, 13, 2,
  * 7, 5. */
 uint8_t oarwillow_rewrite(size_t m, size_t k, size_t b, uint8_t *stripe, size_t stripe_len, size_t column);
+
+/* Changes the cell in that row of that data column to the b bytes of `cell`, and with it the parity cells that depend on it: H's cell in
+ * its row, and D's cell of its diagonal, or every cell of D where it lies on the diagonal of S (row m - 1 - column). No other byte is
+ * read or written, so the cost does not grow with k, and with m on the diagonal of S alone. A valid stripe becomes what oarwillow_encode
+ * would make of the edited data. Of any other exactly the same equations are broken afterwards, each by the same amount: no damage is
+ * covered up, oarwillow_check counts what it counted, and oarwillow_locate names the column that it named. So nothing is judged, and
+ * nothing is mended either: where the column is wrong in that very cell, a rewrite of it later puts the new bytes there with the damage
+ * added, and where it was not read, what stands in its place goes into H and D. Check a stripe that you do not trust, and restore what
+ * is absent, before you change it. Refusals: 1, 12, 13, 2, 7 for a column not below k (H and D cannot be named), 11, 14. */
+uint8_t oarwillow_change(size_t m, size_t k, size_t b, uint8_t *stripe, size_t stripe_len, size_t column, size_t row,
+                         const uint8_t *cell, size_t cell_len);
 
 /* Says where a column lies: `from_bench` 0 for the stripe and 1 for the bench, and the part's start and length there. It reads no byte
  * and does not judge whether the bench was filled. On a refusal: 0, 0, 0. Refusals: 1, 12, 13, 2, 3, 9, 7, 4. */

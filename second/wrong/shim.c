@@ -13,6 +13,7 @@ uint8_t unproved_restore(size_t m, size_t k, size_t b, const uint8_t *places, Pa
                          size_t *second);
 uint8_t unproved_locate(size_t m, size_t k, size_t b, Part *stripe, uint8_t *found, size_t *column);
 uint8_t unproved_rewrite(size_t m, size_t k, size_t b, Part *stripe, size_t column);
+uint8_t unproved_change(size_t m, size_t k, size_t b, Part *stripe, size_t column, size_t row, Part *cell);
 uint8_t unproved_show(size_t m, size_t k, size_t b, const uint8_t *places, Part *stripe, Part *bench, size_t column,
                       size_t *from_bench, size_t *start, size_t *length);
 uint8_t unproved_read(Part *image, Part *stripe, uint8_t *places, size_t *m, size_t *k, size_t *b);
@@ -51,6 +52,13 @@ uint8_t oarwillow_rewrite(size_t m, size_t k, size_t b, uint8_t *stripe, size_t 
 {
     Part s = {stripe, stripe_len};
     return unproved_rewrite(m, k, b, &s, column);
+}
+
+uint8_t oarwillow_change(size_t m, size_t k, size_t b, uint8_t *stripe, size_t stripe_len, size_t column, size_t row,
+                         const uint8_t *cell, size_t cell_len)
+{
+    Part s = {stripe, stripe_len}, c = {cell, cell_len};
+    return unproved_change(m, k, b, &s, column, row, &c);
 }
 
 uint8_t oarwillow_show(size_t m, size_t k, size_t b, const uint8_t places[129], const uint8_t *stripe, size_t stripe_len,

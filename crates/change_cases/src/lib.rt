@@ -26,7 +26,16 @@ fn last_column(out: &mut [u8], at: usize) -> usize {
 // What the change of row 1 of column 1 left, changed back.
 fn changed_back(out: &mut [u8], at: usize) -> usize {
     let mut stripe = [1u8, 2, 4, 255, 16, 32, 21, 221, 206, 233];
-    change_line(out, at, b"change,back", [3, 3, 1], &mut stripe, 1, 1, &[8u8])
+    change_line(
+        out,
+        at,
+        b"change,back",
+        [3, 3, 1],
+        &mut stripe,
+        1,
+        1,
+        &[8u8],
+    )
 }
 
 // C8, which is wrong in row 0 of column 1: changed to what C1 has there, checked and located. The damage is not covered up.
@@ -40,18 +49,20 @@ fn damaged(out: &mut [u8], at: usize) -> usize {
 // C2, with one data column.
 fn one_column(out: &mut [u8], at: usize) -> usize {
     let mut stripe = [1u8, 2, 1, 2, 1, 2];
-    change_line(out, at, b"C2,change", [3, 1, 1], &mut stripe, 0, 1, &[255u8])
+    change_line(
+        out,
+        at,
+        b"C2,change",
+        [3, 1, 1],
+        &mut stripe,
+        0,
+        1,
+        &[255u8],
+    )
 }
 
 // A cell of C3 becomes another.
-fn c3_line(
-    out: &mut [u8],
-    at: usize,
-    name: &[u8],
-    column: usize,
-    row: usize,
-    byte: u8,
-) -> usize {
+fn c3_line(out: &mut [u8], at: usize, name: &[u8], column: usize, row: usize, byte: u8) -> usize {
     let mut c3 = [
         0u8,
         0,
@@ -94,7 +105,16 @@ fn paper(out: &mut [u8], at: usize) -> usize {
 // C11, which is blank.
 fn blank(out: &mut [u8], at: usize) -> usize {
     let mut stripe = [0u8, 0, 0, 0, 0, 0, 0, 0, 0, 0];
-    change_line(out, at, b"C11,change", [3, 3, 1], &mut stripe, 2, 0, &[255u8])
+    change_line(
+        out,
+        at,
+        b"C11,change",
+        [3, 3, 1],
+        &mut stripe,
+        2,
+        0,
+        &[255u8],
+    )
 }
 
 // Columns that are no data columns: H, D, and none.
@@ -116,7 +136,16 @@ fn wrong_rows(out: &mut [u8], at: usize) -> usize {
 fn wrong_cells(out: &mut [u8], at: usize) -> usize {
     let mut c1 = [1u8, 2, 4, 8, 16, 32, 21, 42, 57, 30];
     let next = change_line(out, at, b"change,cell=0", [3, 3, 1], &mut c1, 0, 0, &[]);
-    change_line(out, next, b"change,cell=2", [3, 3, 1], &mut c1, 0, 0, &[255u8, 255])
+    change_line(
+        out,
+        next,
+        b"change,cell=2",
+        [3, 3, 1],
+        &mut c1,
+        0,
+        0,
+        &[255u8, 255],
+    )
 }
 
 // C1 without its last byte.
@@ -130,7 +159,16 @@ fn two_faults(out: &mut [u8], at: usize) -> usize {
     let mut c1 = [1u8, 2, 4, 8, 16, 32, 21, 42, 57, 30];
     let a = short_line(out, at, b"change,length=9", 3, 0);
     let b = c1_line(out, a, b"change,column=3,row=2", 3, 2);
-    let c = change_line(out, b, b"change,row=2,cell=2", [3, 3, 1], &mut c1, 0, 2, &[255u8, 255]);
+    let c = change_line(
+        out,
+        b,
+        b"change,row=2,cell=2",
+        [3, 3, 1],
+        &mut c1,
+        0,
+        2,
+        &[255u8, 255],
+    );
     let d = short_line(out, c, b"change,length=9,column=3", 3, 3);
     short_line(out, d, b"change,k=4,length=9", 4, 0)
 }

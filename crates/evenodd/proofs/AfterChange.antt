@@ -57,11 +57,11 @@ change-as-encode m k b column row cell s after edited fresh q valid p edit e = g
     go encoded.Done e = (
       refl,
       same-data-amounts m k b (f .shape .value .prime .big) (f .shape .filled) after fresh (p .left .size ∙ f .whole) (e .written .0 .stripe .whole)
-      (λ l i t hl hi ht. by-cell (byte m b after l i t ≡ byte m b edited l i t) t i column row
-      (λ c d. rw (c, d) (p .left .new l hl ∙ sym (edit .new l hl)))
-      (λ other. data-stays (f .datum) (p .left) l i t hl hi ht other ∙ sym (edit .others l i t hl hi ht other))
-      ∙ same-column m b edited fresh t (e .written .1 t ht) l i hl hi)
-      (amounts-both (amounts-back (p .left .amounts)) (valid-amounts valid (e .written .0))),
+          (λ l i t hl hi ht. by-cell (byte m b after l i t ≡ byte m b edited l i t) t i column row
+          (λ c d. rw (c, d) (p .left .new l hl ∙ sym (edit .new l hl)))
+          (λ other. data-stays (f .datum) (p .left) l i t hl hi ht other ∙ sym (edit .others l i t hl hi ht other))
+          ∙ same-column m b edited fresh t (e .written .1 t ht) l i hl hi)
+          (amounts-both (amounts-back (p .left .amounts)) (valid-amounts valid (e .written .0))),
     )
     go (encoded.Refused g) e = absurd (passes-not g (gives-one (stripeRules m k b (length edited)) _ _ (stripe-passed m k b (length edited) (f .shape) (edit .size ∙ f .whole)) (e .told)))
 
@@ -139,8 +139,7 @@ pub change-keeps-blame : ChangeKeepsBlame
 unfolding ChangeKeepsBlame
 change-keeps-blame m k b column row cell s after r q ps pv p pr pq =
     let same = p .left .amounts in
-    let other = amounts-back same in
-    (
+    let other = amounts-back same in (
       λ u. (still-named m k b s after ps pv same r q pr pq u, still-named m k b after s pv ps other q r pq pr u),
       (still-six m k b s after ps pv same r q pr pq, still-six m k b after s pv ps other q r pq pr),
     )

@@ -211,14 +211,13 @@ rewrites-one m k b column s x y (rewritten.Refused f) (rewritten.Refused g) p q 
 pub changes-one : ChangesOne
 unfolding ChangesOne
 changes-one m k b column row cell s x y changed.Done changed.Done p q =
-    let f = change-given m k b column row cell s (p .told) in
-    (
+    let f = change-given m k b column row cell s (p .told) in (
       refl,
       same-data-amounts m k b (f .shape .value .prime .big) (f .shape .filled) x y (p .left .size ∙ f .whole) (q .left .size ∙ f .whole)
-      (λ l i t hl hi ht. by-cell (byte m b x l i t ≡ byte m b y l i t) t i column row
-      (λ e d. rw (e, d) (p .left .new l hl ∙ sym (q .left .new l hl)))
-      (λ other. data-stays (f .datum) (p .left) l i t hl hi ht other ∙ sym (data-stays (f .datum) (q .left) l i t hl hi ht other)))
-      (amounts-both (amounts-back (p .left .amounts)) (q .left .amounts)),
+          (λ l i t hl hi ht. by-cell (byte m b x l i t ≡ byte m b y l i t) t i column row
+          (λ e d. rw (e, d) (p .left .new l hl ∙ sym (q .left .new l hl)))
+          (λ other. data-stays (f .datum) (p .left) l i t hl hi ht other ∙ sym (data-stays (f .datum) (q .left) l i t hl hi ht other)))
+          (amounts-both (amounts-back (p .left .amounts)) (q .left .amounts)),
     )
 changes-one m k b column row cell s x y changed.Done (changed.Refused g) p q = absurd (passes-not g (gives-one (changeRules m k b column row cell s) _ _ (p .told) (q .told)))
 changes-one m k b column row cell s x y (changed.Refused f) changed.Done p q = absurd (passes-not f (gives-one (changeRules m k b column row cell s) _ _ (q .told) (p .told)))

@@ -55,8 +55,7 @@ add-to-d-requires : tie.Need-add-to-d-requires
 add-to-d-requires c κs =
     let z = c .before .before .before .before .before .before .before .before .before .before .before .before in
     let laid = z .pre .0 in
-    let size = c .before .before .before .add-within .ensures .size ∙ c .before .before .before .before .before .before .before .before .add-run .ensures .size in
-    (
+    let size = c .before .before .before .add-within .ensures .size ∙ c .before .before .before .before .before .before .before .before .add-run .ensures .size in (
       record { sized = laid .sized; some = laid .some; few = laid .few; whole = size ∙ laid .whole },
       z .pre .1,
       z .pre .2,
