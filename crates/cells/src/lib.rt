@@ -5,7 +5,7 @@ ghost use mathlib.Core.Bool.{true};
 ghost use Prim.Native.Nat.{ℕ, _+_, _≤_, _<_};
 ghost use lib.ListN.{length, getD};
 ghost use Rattle.parity.specs.Xor.{_⊕_};
-ghost use Rattle.cells.specs.Runs.{Added, Put, Through, Tells, First, Zeros};
+ghost use Rattle.cells.specs.Runs.{Added, Put, Through, Exchanged, Tells, First, Zeros};
 
 // Adds cell to acc.
 pub fn xor_into(acc: &mut [u8], cell: &[u8])
@@ -112,6 +112,19 @@ pub fn add_through(w: &mut [u8], from: usize, mid: usize, to: usize, n: usize)
         let x = w[mid + l] ^ w[from + l];
         w[mid + l] = x;
         w[to + l] = w[to + l] ^ x;
+    }
+}
+
+// The bytes at `at` become those of new, and what they change by is added to as many bytes at `one` and at `two`. Byte for byte all is done at once.
+pub fn exchange(w: &mut [u8], at: usize, one: usize, two: usize, new: &[u8])
+    requires { ⌜ (at + length (now new) ≤ one) × (one + length (now new) ≤ two) × (two + length (now new) ≤ length (now w)) ⌝ }
+    ensures { λ _. ⌜ Exchanged (now (w .entry)) (now (w .exit)) at one two (length (now (new .entry))) (λ l. getD (now (new .entry)) l 0) ⌝ }
+{
+    for l in 0..new.len() {
+        let x = w[at + l] ^ new[l];
+        w[one + l] = w[one + l] ^ x;
+        w[two + l] = w[two + l] ^ x;
+        w[at + l] = new[l];
     }
 }
 

@@ -3,9 +3,10 @@
 --   same-diagonal   a row of a column lies on one diagonal
 --   last-back       S has row m - 1 - t of column t
 --   stands-each, stands-own     a cell stands in every equation of D where its diagonal is that of S, and else in that of its diagonal
---   d-each, d-one   D's cells where it is added to each, and where to one
 --   rows-kept, diagonals-kept   a lane in which everything that depends on a cell grew by n keeps its amounts
---   cell-changed    the four steps together
+--   of-grown        so a stripe is changed in that cell where in every lane what depends on it grew by what it changed by
+--   apart           no byte of a cell is one of another's
+--   changed-off-s, changed-on-s   what the code leaves of a stripe, off the diagonal of S and on it
 use mathlib.Core.Path.{_≡_, refl, sym, ap, ap₂, _∙_}
 use mathlib.Core.Logic.{_≢_, _⊎_, inl, inr}
 use mathlib.Core.Bool.{Bool, true, false, cond, _||_}
@@ -26,14 +27,13 @@ use Rattle.parity.proofs.Xor.{⊕-self, ⊕-zero, zero-⊕, ⊕-cancel, xor, by
 use Rattle.parity.proofs.Sum.{sum-add, sum-one}
 use Rattle.parity.proofs.Cells.{diagonal, S-diagonal, cell-real, cell-below, cell-same}
 use Rattle.parity.proofs.Change.{depends-itself, depends-h, depends-d, depends-none}
-use Rattle.cells.specs.Runs.{Put}
+use Rattle.cells.specs.Runs.{Put, Exchanged}
 use Rattle.cells.proofs.Parts.{parts-end, by-order}
 use Rattle.lines.specs.declared.Grid.{Grid}
 use Rattle.lines.specs.Lines.{Sized, Laid}
 use Rattle.lines.specs.Rows.{Lined}
 use Rattle.lines.proofs.Lines.{up-around, up-straight, column-is}
-use Rattle.lines.proofs.Rows.{lined-same}
-use Rattle.lines.proofs.Cells.{at-row, cell-set, other-row, other-column}
+use Rattle.lines.proofs.Cells.{at-row}
 
 -- ---- where cells lie
 
@@ -74,44 +74,6 @@ module _ (m t i d : ℕ) (big : 1 < m) (ht : t < m) (hd : d < m) (own : back m d
         | yes e ↦ eq-eqb (back m r t) i (ap (λ (x : ℕ). back m x t) e ∙ own) ∙ sym (eq-eqb r d e)
         | no other ↦ ne-eqb (back m r t) i (λ e. other (same-diagonal m t r d ht hr hd (e ∙ sym own))) ∙ sym (ne-eqb r d other)
       ])
-
--- ---- what is added in one equation, and in each
-
-module _ (m b t i own from d : ℕ) (s v : List ℕ) (big : 1 < m) (ht : t < m) (hd : own < m) (at-own : back m own t ≡ i) where
-  abbrev DAdded : Type 0
-  DAdded = Lined (m - 1) b d s v (λ r l. getD s (d + (r * b + l)) 0 ⊕ cond (standsInD m t i r) (getD s (from + l) 0) 0)
-
-  pub d-each : own ≡ m - 1 → Lined (m - 1) b d s v (λ r l. getD s (d + (r * b + l)) 0 ⊕ getD s (from + l) 0) → DAdded
-  d-each e p = lined-same p (λ r l hr hl.
-      ap (λ (x : Bool). getD s (d + (r * b + l)) 0 ⊕ cond x (getD s (from + l) 0) 0) (sym (stands-each m t i own big ht hd at-own e r)))
-
-  pub d-one : own ≢ m - 1 → Put s v (d + own * b) b (λ l. getD s (d + own * b + l) 0 ⊕ getD s (from + l) 0) → DAdded
-  d-one ne p = record {
-    size = p .size;
-    inside = λ r l hr hl. elim (ℕ-discrete r own) [
-      | yes e ↦
-          let place : d + (r * b + l) ≡ d + own * b + l = (let z : r * b ≡ own * b = ap (λ (x : ℕ). x * b) e in omega arith) in
-          ap (λ (x : ℕ). getD v x 0) place ∙ p .inside l hl ∙ ap (λ (x : ℕ). getD s x 0 ⊕ getD s (from + l) 0) (sym place)
-          ∙ ap (λ (x : Bool). getD s (d + (r * b + l)) 0 ⊕ cond x (getD s (from + l) 0) 0) (sym (stands r hr ∙ eq-eqb r own e))
-      | no other ↦
-          kept r l hl other
-          ∙ sym (⊕-zero (getD s (d + (r * b + l)) 0))
-          ∙ ap (λ (x : Bool). getD s (d + (r * b + l)) 0 ⊕ cond x (getD s (from + l) 0) 0) (sym (stands r hr ∙ ne-eqb r own other))
-    ];
-    before = λ x h. p .before x (omega arith);
-    after = λ x h. p .after x (omega (arith, parts-end b below));
-  }
-    where
-      below : own < m - 1
-      below = omega (arith, ne)
-
-      stands : (r : ℕ) → r < m - 1 → standsInD m t i r ≡ eqb r own
-      stands r hr = stands-own m t i own big ht hd at-own ne r (omega arith)
-
-      kept : (r l : ℕ) → l < b → r ≢ own → getD v (d + (r * b + l)) 0 ≡ getD s (d + (r * b + l)) 0
-      kept r l hl other = by-order (getD v (d + (r * b + l)) 0 ≡ getD s (d + (r * b + l)) 0) r own
-          (λ low. p .before _ (omega (arith, parts-end b low)))
-          (λ high. let h : own < r = omega (arith, other) in p .after _ (omega (arith, parts-end b h)))
 
 -- ---- amounts
 
@@ -171,128 +133,172 @@ module _ (m k t i n : ℕ) (a c : Lane) (big : 1 < m) (few : k ≤ m) (ht : t < 
       tidy : (x y z s e : ℕ) → x ⊕ (y ⊕ z) ⊕ (s ⊕ y ⊕ (e ⊕ z)) ≡ x ⊕ (s ⊕ e)
       tidy x y z s e = simp xor
 
--- ---- the four steps
+-- So that is all that is to be shown of a changed cell.
+pub of-grown : (m k b t i : ℕ) (s v new : List ℕ) → 1 < m → k ≤ m → t < k → i < m - 1 → length v ≡ length s
+    → ((l r x : ℕ) → l < b → r < m - 1 → x < k + 2 → lane m b v l r x ≡ lane m b s l r x ⊕ cond (depends m k t i r x) (lane m b s l i t ⊕ getD new l 0) 0)
+    → CellChanged m k b t i new s v
+of-grown m k b t i s v new big few ht hi size grown = record {
+  size = size;
+  new = λ l hl.
+      grown l i t hl hi (omega arith)
+      ∙ ap (λ (y : Bool). lane m b s l i t ⊕ cond y (lane m b s l i t ⊕ getD new l 0) 0) (depends-itself m k t i ht i ∙ eq-eqb i i refl)
+      ∙ ⊕-cancel (lane m b s l i t) (getD new l 0);
+  amounts = record {
+    rows = λ l r hl hr. rows-kept m k t i (lane m b s l i t ⊕ getD new l 0) (lane m b s l) (lane m b v l) big few ht hi (λ r x hr hx. grown l r x hl hr hx) r hr;
+    diagonals = λ l r hl hr. diagonals-kept m k t i (lane m b s l i t ⊕ getD new l 0) (lane m b s l) (lane m b v l) big few ht hi (λ r x hr hx. grown l r x hl hr hx) r hr;
+  };
+  stays = λ l r x hl hr hx e. grown l r x hl hr hx ∙ ap (λ (y : Bool). lane m b s l r x ⊕ cond y (lane m b s l i t ⊕ getD new l 0) 0) e ∙ ⊕-zero (lane m b s l r x);
+}
 
--- all cells but the one that was set are as they were
-kept-cell : {m b c : ℕ} → Sized m b c → {s v : List ℕ} {f : ℕ → ℕ} (t i : ℕ) → i < m - 1 → Put s v (t * c + i * b) b f
-    → (l r x : ℕ) → l < b → r < m - 1 → (x ≡ t → r ≢ i) → lane m b v l r x ≡ lane m b s l r x
-kept-cell {m} {b} {c} z {s} {v} t i hi p l r x hl hr ne = elim (ℕ-discrete x t) [
-  | yes e ↦ rw e (other-row m b i t place p l r hl (ne e))
-  | no other ↦ other-column m b i t place p hi l r x hl hr other
-]
-  where
-    place : t * c + i * b ≡ t * columnLength m b + i * b
-    place = ap (λ (n : ℕ). t * n + i * b) (z .column)
+-- ---- what the steps leave, cell by cell
 
--- The cell gets the new bytes added; H's cell gets the cell added; D's cells get it; the cell becomes the new bytes.
-module _ {m b c : ℕ} (z : Sized m b c) (k t i : ℕ) (s s₁ s₂ s₃ v new : List ℕ) (ht : t < k) (hi : i < m - 1)
-    (first : Put s s₁ (t * c + i * b) b (λ l. getD s (t * c + i * b + l) 0 ⊕ getD new (0 + l) 0))
-    (second : Put s₁ s₂ (k * c + i * b) b (λ l. getD s₁ (k * c + i * b + l) 0 ⊕ getD s₁ (t * c + i * b + l) 0))
-    (third : Lined (m - 1) b ((k + 1) * c) s₂ s₃ (λ r l. getD s₂ ((k + 1) * c + (r * b + l)) 0 ⊕ cond (standsInD m t i r) (getD s₂ (t * c + i * b + l) 0) 0))
-    (fourth : Put s₃ v (t * c + i * b) b (λ l. getD new l 0)) where
-  at-cell : (w : List ℕ) (x l : ℕ) → getD w (x * c + i * b + l) 0 ≡ lane m b w l i x
-  at-cell w x l = let e : x * c + i * b + l ≡ x * c + (i * b + l) = omega arith in ap (λ (n : ℕ). getD w n 0) e ∙ sym (at-row z w x l i)
+-- of another cell than that in row i of column t no byte is one of its bytes
+pub apart : {m b c : ℕ} → Sized m b c → (t i l r x : ℕ) → i < m - 1 → l < b → r < m - 1 → (x ≡ t → r ≢ i)
+    → t * c + i * b ≤ x * c + (r * b + l) → t * c + i * b + b ≤ x * c + (r * b + l)
+apart {m} {b} {c} z t i l r x hi hl hr ne above = by-order (t * c + i * b + b ≤ x * c + (r * b + l)) x t
+    (λ low. absurd (omega (arith, parts-end c low, parts-end b hr, column-is m b c z)))
+    (λ high. elim (ℕ-discrete x t) [
+      | yes e ↦ rw e (by-order (t * c + i * b + b ≤ t * c + (r * b + l)) r i
+          (λ before. absurd (let same : x * c ≡ t * c = ap (λ (n : ℕ). n * c) e in omega (arith, parts-end b before, same)))
+          (λ after. let past : i < r = omega (arith, ne e) in omega (arith, parts-end b past)))
+      | no other ↦ let past : t < x = omega (arith, other) in omega (arith, parts-end c past, parts-end b hi, column-is m b c z)
+    ])
 
+module _ {m b c : ℕ} (z : Sized m b c) (k t i : ℕ) (s v new : List ℕ) (few : k ≤ m) (ht : t < k) (hi : i < m - 1) where
   -- the difference
   abbrev delta : ℕ → ℕ
   delta l = lane m b s l i t ⊕ getD new l 0
 
-  set-cell : (w u : List ℕ) (x : ℕ) (f : ℕ → ℕ) → Put w u (x * c + i * b) b f → (l : ℕ) → l < b → lane m b u l i x ≡ f l
-  set-cell w u x f p l hl = sym (at-cell u x l) ∙ p .inside l hl
-
-  -- after the first step the cell holds the difference
-  holds-delta : (l : ℕ) → l < b → lane m b s₁ l i t ≡ delta l
-  holds-delta l hl =
-      let e : 0 + l ≡ l = omega arith in
-      set-cell s s₁ t _ first l hl ∙ ap₂ _⊕_ (at-cell s t l) (ap (λ (n : ℕ). getD new n 0) e)
-
-  -- and after the second too
-  still-delta : (l : ℕ) → l < b → lane m b s₂ l i t ≡ delta l
-  still-delta l hl = kept-cell z k i hi second l i t hl hi (λ e. absurd (omega (arith, e))) ∙ holds-delta l hl
-
-  -- D's cells were not looked at before the third
-  d-cell : (l r : ℕ) → l < b → r < m - 1 → lane m b s₂ l r (k + 1) ≡ lane m b s l r (k + 1)
-  d-cell l r hl hr =
-      kept-cell z k i hi second l r (k + 1) hl hr (λ e. absurd (omega (arith, e)))
-      ∙ kept-cell z t i hi first l r (k + 1) hl hr (λ e. absurd (omega (arith, e)))
-
-  -- the third step writes D alone
-  before-d : (l r x : ℕ) → l < b → r < m - 1 → x < k + 1 → lane m b s₃ l r x ≡ lane m b s₂ l r x
-  before-d l r x hl hr hx =
-      at-row z s₃ x l r
-      ∙ third .before (x * c + (r * b + l)) (omega (arith, parts-end c hx, parts-end b hr, column-is m b c z))
-      ∙ sym (at-row z s₂ x l r)
-
-  in-d : (l r : ℕ) → l < b → r < m - 1 → lane m b s₃ l r (k + 1) ≡ lane m b s l r (k + 1) ⊕ cond (standsInD m t i r) (delta l) 0
-  in-d l r hl hr =
-      at-row z s₃ (k + 1) l r
-      ∙ third .inside r l hr hl
-      ∙ ap₂ _⊕_ (sym (at-row z s₂ (k + 1) l r) ∙ d-cell l r hl hr) (ap (λ (n : ℕ). cond (standsInD m t i r) n 0) (at-cell s₂ t l ∙ still-delta l hl))
-
   abbrev Grown : ℕ → ℕ → ℕ → Type 0
   Grown l r x = lane m b v l r x ≡ lane m b s l r x ⊕ cond (depends m k t i r x) (delta l) 0
 
-  -- the fourth step writes the cell alone
-  last : (l r x : ℕ) → l < b → r < m - 1 → (x ≡ t → r ≢ i) → lane m b v l r x ≡ lane m b s₃ l r x
-  last l r x hl hr ne = kept-cell z t i hi fourth l r x hl hr ne
-
-  -- where nothing depends, nothing is added
-  none : (l r x : ℕ) → depends m k t i r x ≡ false → lane m b v l r x ≡ lane m b s l r x → Grown l r x
-  none l r x e p = p ∙ sym (ap (λ (y : Bool). lane m b s l r x ⊕ cond y (delta l) 0) e ∙ ⊕-zero (lane m b s l r x))
-
-  -- data cells but the one
-  other-data : (l r x : ℕ) → l < b → r < m - 1 → x < k → (x ≡ t → r ≢ i) → lane m b v l r x ≡ lane m b s l r x
-  other-data l r x hl hr hx ne =
-      last l r x hl hr ne
-      ∙ before-d l r x hl hr (omega arith)
-      ∙ kept-cell z k i hi second l r x hl hr (λ e. absurd (omega (arith, e)))
-      ∙ kept-cell z t i hi first l r x hl hr ne
-
-  -- the cell's own column, H, D, and the other columns
-  in-own : (l r : ℕ) → l < b → r < m - 1 → Grown l r t
-  in-own l r hl hr = elim (ℕ-discrete r i) [
-    | yes e ↦ rw e (
-        set-cell s₃ v t _ fourth l hl
-        ∙ sym (⊕-cancel (lane m b s l i t) (getD new l 0))
-        ∙ ap (λ (y : Bool). lane m b s l i t ⊕ cond y (delta l) 0) (sym (depends-itself m k t i ht i ∙ eq-eqb i i refl)))
-    | no other ↦ none l r t (depends-itself m k t i ht r ∙ ne-eqb r i other) (other-data l r t hl hr ht (λ _. other))
-  ]
-
-  in-h : (l r : ℕ) → l < b → r < m - 1 → Grown l r k
-  in-h l r hl hr = elim (ℕ-discrete r i) [
-    | yes e ↦ rw e (
-        up l i hl hi
-        ∙ set-cell s₁ s₂ k _ second l hl
-        ∙ ap₂ _⊕_ (at-cell s₁ k l ∙ kept-cell z t i hi first l i k hl hi (λ q. absurd (omega (arith, q)))) (at-cell s₁ t l ∙ holds-delta l hl)
-        ∙ ap (λ (y : Bool). lane m b s l i k ⊕ cond y (delta l) 0) (sym (depends-h m k t i ht i ∙ eq-eqb i i refl)))
-    | no other ↦ none l r k (depends-h m k t i ht r ∙ ne-eqb r i other)
-        (up l r hl hr ∙ kept-cell z k i hi second l r k hl hr (λ _. other) ∙ kept-cell z t i hi first l r k hl hr (λ q. absurd (omega (arith, q))))
-  ]
-    where
-      up : (l r : ℕ) → l < b → r < m - 1 → lane m b v l r k ≡ lane m b s₂ l r k
-      up l r hl hr = last l r k hl hr (λ q. absurd (omega (arith, q))) ∙ before-d l r k hl hr (omega arith)
-
-  grown : (l r x : ℕ) → l < b → r < m - 1 → x < k + 2 → Grown l r x
-  grown l r x hl hr hx = elim (ℕ-discrete x t) [
-    | yes e ↦ rw e (in-own l r hl hr)
-    | no apart ↦ elim (decLt x k) [
-      | yes low ↦ none l r x (depends-none m k t i ht r x low apart) (other-data l r x hl hr low (λ q. absurd (apart q)))
-      | no high ↦ elim (ℕ-discrete x k) [
-        | yes e ↦ rw e (in-h l r hl hr)
-        | no past ↦
-            let e : x ≡ k + 1 = omega (arith, past) in
-            rw e (last l r (k + 1) hl hr (λ q. absurd (omega (arith, q))) ∙ in-d l r hl hr ∙ ap (λ (y : Bool). lane m b s l r (k + 1) ⊕ cond y (delta l) 0) (sym (depends-d m k t i ht r)))
+  -- from what the cells became, column by column: the cell's own, H, D and the others
+  columns : ((l r x : ℕ) → l < b → r < m - 1 → x < k → (x ≡ t → r ≢ i) → lane m b v l r x ≡ lane m b s l r x)
+      → ((l : ℕ) → l < b → lane m b v l i t ≡ getD new l 0)
+      → ((l r : ℕ) → l < b → r < m - 1 → lane m b v l r k ≡ lane m b s l r k ⊕ cond (eqb r i) (delta l) 0)
+      → ((l r : ℕ) → l < b → r < m - 1 → lane m b v l r (k + 1) ≡ lane m b s l r (k + 1) ⊕ cond (standsInD m t i r) (delta l) 0)
+      → (l r x : ℕ) → l < b → r < m - 1 → x < k + 2 → Grown l r x
+  columns others itself in-h in-d l r x hl hr hx = elim (decLt x k) [
+    | yes low ↦ elim (ℕ-discrete x t) [
+      | yes e ↦ elim (ℕ-discrete r i) [
+        | yes d ↦ rw (e, d) (itself l hl ∙ sym (⊕-cancel (lane m b s l i t) (getD new l 0)) ∙ with-test i t (sym (depends-itself m k t i ht i ∙ eq-eqb i i refl)))
+        | no ne ↦ rw e (others l r t hl hr ht (λ _. ne) ∙ sym (⊕-zero (lane m b s l r t)) ∙ with-test r t (sym (depends-itself m k t i ht r ∙ ne-eqb r i ne)))
       ]
+      | no ne ↦ others l r x hl hr low (λ e. absurd (ne e)) ∙ sym (⊕-zero (lane m b s l r x)) ∙ with-test r x (sym (depends-none m k t i ht r x low ne))
+    ]
+    | no high ↦ elim (ℕ-discrete x k) [
+      | yes e ↦ rw e (in-h l r hl hr ∙ with-test r k (sym (depends-h m k t i ht r)))
+      | no ne ↦ let e : x ≡ k + 1 = omega (arith, ne) in rw e (in-d l r hl hr ∙ with-test r (k + 1) (sym (depends-d m k t i ht r)))
     ]
   ]
+    where
+      with-test : (r x : ℕ) {p q : Bool} → p ≡ q → lane m b s l r x ⊕ cond p (delta l) 0 ≡ lane m b s l r x ⊕ cond q (delta l) 0
+      with-test r x e = ap (λ (y : Bool). lane m b s l r x ⊕ cond y (delta l) 0) e
 
-  pub cell-changed : k ≤ m → CellChanged m k b t i new s v
-  cell-changed few = record {
-    size = fourth .size ∙ third .size ∙ second .size ∙ first .size;
-    new = λ l hl. set-cell s₃ v t _ fourth l hl;
-    amounts = record {
-      rows = λ l r hl hr. rows-kept m k t i (delta l) (lane m b s l) (lane m b v l) (z .big) few ht hi (λ r x hr hx. grown l r x hl hr hx) r hr;
-      diagonals = λ l r hl hr. diagonals-kept m k t i (delta l) (lane m b s l) (lane m b v l) (z .big) few ht hi (λ r x hr hx. grown l r x hl hr hx) r hr;
-    };
-    stays = λ l r x hl hr hx e. grown l r x hl hr hx ∙ ap (λ (y : Bool). lane m b s l r x ⊕ cond y (delta l) 0) e ∙ ⊕-zero (lane m b s l r x);
-  }
+  -- where byte l of the cell in row r of column x stands
+  at-cell : (w : List ℕ) (x r l : ℕ) → getD w (x * c + r * b + l) 0 ≡ lane m b w l r x
+  at-cell w x r l = let e : x * c + r * b + l ≡ x * c + (r * b + l) = omega arith in ap (λ (n : ℕ). getD w n 0) e ∙ sym (at-row z w x l r)
+
+  -- ---- off the diagonal of S
+
+  module _ (own : ℕ) (hown : own < m - 1) (at-own : back m own t ≡ i) (e : Exchanged s v (t * c + i * b) (k * c + i * b) (k * c + c + own * b) b (λ l. getD new l 0)) where
+    -- a cell that is none of the three
+    kept : (l r x : ℕ) → l < b → r < m - 1 → (x ≡ t → r ≢ i) → (x ≡ k → r ≢ i) → (x ≡ k + 1 → r ≢ own) → lane m b v l r x ≡ lane m b s l r x
+    kept l r x hl hr itself h d =
+        at-row z v x l r
+        ∙ e .others (x * c + (r * b + l)) (apart z t i l r x hi hl hr itself) (apart z k i l r x hi hl hr h)
+        (λ above. let past = apart z (k + 1) own l r x hown hl hr d (omega (arith, above)) in omega (arith, past))
+        ∙ sym (at-row z s x l r)
+
+    in-h-off : (l r : ℕ) → l < b → r < m - 1 → lane m b v l r k ≡ lane m b s l r k ⊕ cond (eqb r i) (delta l) 0
+    in-h-off l r hl hr = elim (ℕ-discrete r i) [
+      | yes d ↦ rw d (
+          sym (at-cell v k i l) ∙ e .first l hl ∙ ap₂ _⊕_ (at-cell s k i l) (ap (λ (n : ℕ). n ⊕ getD new l 0) (at-cell s t i l))
+          ∙ ap (λ (y : Bool). lane m b s l i k ⊕ cond y (delta l) 0) (sym (eq-eqb i i refl)))
+      | no ne ↦
+          kept l r k hl hr (λ q. absurd (omega (arith, q))) (λ _. ne) (λ q. absurd (omega (arith, q)))
+          ∙ sym (⊕-zero (lane m b s l r k)) ∙ ap (λ (y : Bool). lane m b s l r k ⊕ cond y (delta l) 0) (sym (ne-eqb r i ne))
+    ]
+
+    in-d-off : (l r : ℕ) → l < b → r < m - 1 → lane m b v l r (k + 1) ≡ lane m b s l r (k + 1) ⊕ cond (standsInD m t i r) (delta l) 0
+    in-d-off l r hl hr = elim (ℕ-discrete r own) [
+      | yes d ↦
+          let place : (k + 1) * c + own * b + l ≡ k * c + c + own * b + l = omega arith in
+          rw d (
+          sym (at-cell v (k + 1) own l) ∙ ap (λ (n : ℕ). getD v n 0) place ∙ e .second l hl
+          ∙ ap₂ _⊕_ (ap (λ (n : ℕ). getD s n 0) (sym place) ∙ at-cell s (k + 1) own l) (ap (λ (n : ℕ). n ⊕ getD new l 0) (at-cell s t i l))
+          ∙ ap (λ (y : Bool). lane m b s l own (k + 1) ⊕ cond y (delta l) 0) (sym (stands own hown ∙ eq-eqb own own refl)))
+      | no ne ↦
+          kept l r (k + 1) hl hr (λ q. absurd (omega (arith, q))) (λ q. absurd (omega (arith, q))) (λ _. ne)
+          ∙ sym (⊕-zero (lane m b s l r (k + 1))) ∙ ap (λ (y : Bool). lane m b s l r (k + 1) ⊕ cond y (delta l) 0) (sym (stands r hr ∙ ne-eqb r own ne))
+    ]
+      where
+        stands : (r : ℕ) → r < m - 1 → standsInD m t i r ≡ eqb r own
+        stands r hr = stands-own m t i own (z .big) (omega arith) (omega arith) at-own (λ q. absurd (omega (arith, q))) r (omega arith)
+
+    pub changed-off-s : CellChanged m k b t i new s v
+    changed-off-s = of-grown m k b t i s v new (z .big) few ht hi (e .size) (columns
+        (λ l r x hl hr hx ne. kept l r x hl hr ne (λ q. absurd (omega (arith, q))) (λ q. absurd (omega (arith, q))))
+        (λ l hl. sym (at-cell v t i l) ∙ e .inside l hl)
+        in-h-off in-d-off)
+
+  -- ---- on it, in four steps: the cell gets the new bytes added, H's cell gets the cell added, D's cells do, and the cell becomes the new bytes
+
+  module _ (on : back m (m - 1) t ≡ i) (s₁ s₂ s₃ : List ℕ)
+      (first : Put s s₁ (t * c + i * b) b (λ l. getD s (t * c + i * b + l) 0 ⊕ getD new (0 + l) 0))
+      (second : Put s₁ s₂ (k * c + i * b) b (λ l. getD s₁ (k * c + i * b + l) 0 ⊕ getD s₁ (t * c + i * b + l) 0))
+      (third : Lined (m - 1) b (k * c + c) s₂ s₃ (λ r l. getD s₂ (k * c + c + (r * b + l)) 0 ⊕ getD s₂ (t * c + i * b + l) 0))
+      (fourth : Put s₃ v (t * c + i * b) b (λ l. getD new l 0)) where
+    -- all cells but the one that a step sets are as they were
+    but : (t : ℕ) {w u : List ℕ} {f : ℕ → ℕ} → Put w u (t * c + i * b) b f → (l r x : ℕ) → l < b → r < m - 1 → (x ≡ t → r ≢ i) → lane m b u l r x ≡ lane m b w l r x
+    but t {w} {u} p l r x hl hr ne =
+        at-row z u x l r
+        ∙ by-order (getD u (x * c + (r * b + l)) 0 ≡ getD w (x * c + (r * b + l)) 0) (x * c + (r * b + l)) (t * c + i * b)
+        (λ low. p .before _ low)
+        (λ high. p .after _ (apart z t i l r x hi hl hr ne high))
+        ∙ sym (at-row z w x l r)
+
+    -- after the first step the cell holds the difference, and after the second too
+    holds-delta : (l : ℕ) → l < b → lane m b s₁ l i t ≡ delta l
+    holds-delta l hl =
+        let e : 0 + l ≡ l = omega arith in
+        sym (at-cell s₁ t i l) ∙ first .inside l hl ∙ ap₂ _⊕_ (at-cell s t i l) (ap (λ (n : ℕ). getD new n 0) e)
+
+    still-delta : (l : ℕ) → l < b → getD s₂ (t * c + i * b + l) 0 ≡ delta l
+    still-delta l hl = at-cell s₂ t i l ∙ but k second l i t hl hi (λ e. absurd (omega (arith, e))) ∙ holds-delta l hl
+
+    -- the third step writes D alone
+    before-d : (l r x : ℕ) → l < b → r < m - 1 → x < k + 1 → lane m b s₃ l r x ≡ lane m b s₂ l r x
+    before-d l r x hl hr hx =
+        at-row z s₃ x l r
+        ∙ third .before (x * c + (r * b + l)) (omega (arith, parts-end c hx, parts-end b hr, column-is m b c z))
+        ∙ sym (at-row z s₂ x l r)
+
+    in-h-on : (l r : ℕ) → l < b → r < m - 1 → lane m b v l r k ≡ lane m b s l r k ⊕ cond (eqb r i) (delta l) 0
+    in-h-on l r hl hr = but t fourth l r k hl hr (λ q. absurd (omega (arith, q))) ∙ before-d l r k hl hr (omega arith) ∙ (elim (ℕ-discrete r i) [
+      | yes d ↦ rw d (
+          sym (at-cell s₂ k i l) ∙ second .inside l hl
+          ∙ ap₂ _⊕_ (at-cell s₁ k i l ∙ but t first l i k hl hi (λ q. absurd (omega (arith, q)))) (at-cell s₁ t i l ∙ holds-delta l hl)
+          ∙ ap (λ (y : Bool). lane m b s l i k ⊕ cond y (delta l) 0) (sym (eq-eqb i i refl)))
+      | no ne ↦
+          but k second l r k hl hr (λ _. ne) ∙ but t first l r k hl hr (λ q. absurd (omega (arith, q)))
+          ∙ sym (⊕-zero (lane m b s l r k)) ∙ ap (λ (y : Bool). lane m b s l r k ⊕ cond y (delta l) 0) (sym (ne-eqb r i ne))
+    ])
+
+    in-d-on : (l r : ℕ) → l < b → r < m - 1 → lane m b v l r (k + 1) ≡ lane m b s l r (k + 1) ⊕ cond (standsInD m t i r) (delta l) 0
+    in-d-on l r hl hr =
+        let place : (k + 1) * c + (r * b + l) ≡ k * c + c + (r * b + l) = omega arith in
+        but t fourth l r (k + 1) hl hr (λ q. absurd (omega (arith, q)))
+        ∙ at-row z s₃ (k + 1) l r ∙ ap (λ (n : ℕ). getD s₃ n 0) place ∙ third .inside r l hr hl
+        ∙ ap₂ _⊕_ (
+        ap (λ (n : ℕ). getD s₂ n 0) (sym place) ∙ sym (at-row z s₂ (k + 1) l r)
+        ∙ but k second l r (k + 1) hl hr (λ q. absurd (omega (arith, q))) ∙ but t first l r (k + 1) hl hr (λ q. absurd (omega (arith, q)))) (still-delta l hl)
+        ∙ ap (λ (y : Bool). lane m b s l r (k + 1) ⊕ cond y (delta l) 0) (sym (stands-each m t i (m - 1) (z .big) (omega arith) (omega (arith, z .big)) on refl r))
+
+    pub changed-on-s : CellChanged m k b t i new s v
+    changed-on-s = of-grown m k b t i s v new (z .big) few ht hi (fourth .size ∙ third .size ∙ second .size ∙ first .size) (columns
+        (λ l r x hl hr hx ne.
+        but t fourth l r x hl hr ne ∙ before-d l r x hl hr (omega arith)
+        ∙ but k second l r x hl hr (λ q. absurd (omega (arith, q))) ∙ but t first l r x hl hr ne)
+        (λ l hl. sym (at-cell v t i l) ∙ fourth .inside l hl)
+        in-h-on in-d-on)
