@@ -3,7 +3,8 @@
 --   same-diagonal   a row of a column lies on one diagonal
 --   last-back       S has row m - 1 - t of column t
 --   stands-each, stands-own     a cell stands in every equation of D where its diagonal is that of S, and else in that of its diagonal
---   rows-kept, diagonals-kept   a lane in which everything that depends on a cell grew by n keeps its amounts
+--   H-grown, D-grown   where n was added to one data cell, what an equation asks for grows by n where that cell stands in it
+--   rows-kept, diagonals-kept, parity-grown   so a lane in which everything that depends on the cell grew by n keeps its amounts; and the other way round
 --   of-grown        so a stripe is changed in that cell where in every lane what depends on it grew by what it changed by
 --   apart           no byte of a cell is one of another's
 --   changed-off-s, changed-on-s   what the code leaves of a stripe, off the diagonal of S and on it
@@ -23,7 +24,7 @@ use Rattle.parity.specs.Shape.{columnLength}
 use Rattle.parity.specs.Equations.{Lane, cell, back, H, S, D, amountH, amountD}
 use Rattle.parity.specs.Stripe.{byte, lane}
 use Rattle.parity.specs.Change.{standsInD, depends, SameAmounts, CellChanged}
-use Rattle.parity.proofs.Xor.{⊕-self, ⊕-zero, zero-⊕, ⊕-cancel, xor, by-sum}
+use Rattle.parity.proofs.Xor.{⊕-self, ⊕-zero, zero-⊕, ⊕-cancel, ⊕-move, xor, by-sum}
 use Rattle.parity.proofs.Sum.{sum-add, sum-one}
 use Rattle.parity.proofs.Cells.{diagonal, S-diagonal, cell-real, cell-below, cell-same}
 use Rattle.parity.proofs.Change.{depends-itself, depends-h, depends-d, depends-none}
@@ -82,13 +83,13 @@ either : (x y : Bool) (n : ℕ) → (x ≡ true → y ≡ false) → cond (x || 
 either true y n alone = sym (ap (λ (z : Bool). n ⊕ cond z n 0) (alone refl) ∙ ⊕-zero n)
 either false y n alone = sym (zero-⊕ (cond y n 0))
 
--- In lane c, what depends on the cell in row i of column t is what it is in lane a with n added, and the rest is the same.
+-- In lane c the data cells are those of lane a, but that n was added to the cell in row i of column t.
 module _ (m k t i n : ℕ) (a c : Lane) (big : 1 < m) (few : k ≤ m) (ht : t < k) (hi : i < m - 1)
-    (grown : (r x : ℕ) → r < m - 1 → x < k + 2 → c r x ≡ a r x ⊕ cond (depends m k t i r x) n 0) where
+    (grown : (r x : ℕ) → r < m - 1 → x < k → c r x ≡ a r x ⊕ cond (depends m k t i r x) n 0) where
   -- a sum of one cell of each column grows by n if it has the cell
   cell-grown : (r : ℕ) → cell m k c r t ⊕ cell m k a r t ≡ cond (eqb r i) n 0
   cell-grown r = elim (decLt r (m - 1)) [
-    | yes h ↦ ap₂ _⊕_ (cell-real m k c r t h ht ∙ grown r t h (omega arith) ∙ ap (λ (z : Bool). a r t ⊕ cond z n 0) (depends-itself m k t i ht r)) (cell-real m k a r t h ht)
+    | yes h ↦ ap₂ _⊕_ (cell-real m k c r t h ht ∙ grown r t h ht ∙ ap (λ (z : Bool). a r t ⊕ cond z n 0) (depends-itself m k t i ht r)) (cell-real m k a r t h ht)
         ∙ tidy (a r t) (cond (eqb r i) n 0)
     | no h ↦ ap₂ _⊕_ (cell-below m k c r t (omega arith)) (cell-below m k a r t (omega arith)) ∙ ⊕-self 0 ∙ ap (λ (z : Bool). cond z n 0) (sym (ne-eqb r i (λ e. absurd (omega (arith, e)))))
   ]
@@ -100,38 +101,70 @@ module _ (m k t i n : ℕ) (a c : Lane) (big : 1 < m) (few : k ≤ m) (ht : t < 
   sum-grown p = by-sum (
       sym (sum-add m (λ x. cell m k c (p x) x) (λ x. cell m k a (p x) x))
       ∙ sum-one m t (omega arith) (λ x _ ne. ap (λ (z : ℕ). z ⊕ cell m k a (p x) x) (cell-same m k c a (p x) x (λ h hx.
-      grown (p x) x h (omega arith) ∙ ap (λ (z : Bool). a (p x) x ⊕ cond z n 0) (depends-none m k t i ht (p x) x hx ne) ∙ ⊕-zero (a (p x) x))) ∙ ⊕-self (cell m k a (p x) x))
+      grown (p x) x h hx ∙ ap (λ (z : Bool). a (p x) x ⊕ cond z n 0) (depends-none m k t i ht (p x) x hx ne) ∙ ⊕-zero (a (p x) x))) ∙ ⊕-self (cell m k a (p x) x))
       ∙ cell-grown (p t)) (simp xor)
 
-  pub rows-kept : (r : ℕ) → r < m - 1 → amountH m k c r ≡ amountH m k a r
-  unfolding amountH H
-  rows-kept r h =
-      ap₂ _⊕_ (grown r k h (omega arith) ∙ ap (λ (z : Bool). a r k ⊕ cond z n 0) (depends-h m k t i ht r)) (sum-grown (λ _. r))
-      ∙ tidy (a r k) (cond (eqb r i) n 0) (H m k a r)
-    where
-      tidy : (x y z : ℕ) → x ⊕ y ⊕ (z ⊕ y) ≡ x ⊕ z
-      tidy x y z = simp xor
+  -- so what the equation of H's cell in row r asks for grows by n where the cell stands in it
+  pub H-grown : (r : ℕ) → H m k c r ≡ H m k a r ⊕ cond (depends m k t i r k) n 0
+  unfolding H
+  H-grown r = sum-grown (λ _. r) ∙ ap (λ (z : Bool). sum m (cell m k a r) ⊕ cond z n 0) (sym (depends-h m k t i ht r))
 
   -- it is in S, or in diagonal r, or in neither: in both it would be in the imaginary row
   stands-apart : (r : ℕ) → r < m - 1 → eqb (m - 1 - t) i ≡ true → eqb (back m r t) i ≡ false
   stands-apart r h e = ne-eqb (back m r t) i (λ q. absurd (
       let z : r ≡ m - 1 = same-diagonal m t r (m - 1) (omega arith) (omega arith) (omega arith) (q ∙ sym (eqb-true (m - 1 - t) i e) ∙ sym (last-back m t big (omega arith))) in omega (arith, z)))
 
-  pub diagonals-kept : (r : ℕ) → r < m - 1 → amountD m k c r ≡ amountD m k a r
-  unfolding amountD D standsInD diagonal
-  diagonals-kept r h =
-      ap₂ _⊕_
-      (grown r (k + 1) h (omega arith) ∙ ap (λ (z : ℕ). a r (k + 1) ⊕ z) (ap (λ (z : Bool). cond z n 0) (depends-d m k t i ht r) ∙ either (eqb (m - 1 - t) i) (eqb (back m r t) i) n (stands-apart r h)))
-      (ap₂ _⊕_ special (sum-grown (back m r)))
-      ∙ tidy (a r (k + 1)) (cond (eqb (m - 1 - t) i) n 0) (cond (eqb (back m r t) i) n 0) (S m k a) (sum m (λ x. cell m k a (back m r x) x))
+  -- and so does what that of D's cell asks for
+  pub D-grown : (r : ℕ) → r < m - 1 → D m k c r ≡ D m k a r ⊕ cond (depends m k t i r (k + 1)) n 0
+  unfolding D standsInD diagonal
+  D-grown r h =
+      ap₂ _⊕_ special (sum-grown (back m r))
+      ∙ tidy (S m k a) (cond (eqb (m - 1 - t) i) n 0) (sum m (λ x. cell m k a (back m r x) x)) (cond (eqb (back m r t) i) n 0)
+      ∙ ap (λ (z : ℕ). S m k a ⊕ sum m (λ x. cell m k a (back m r x) x) ⊕ z)
+      (sym (ap (λ (z : Bool). cond z n 0) (depends-d m k t i ht r) ∙ either (eqb (m - 1 - t) i) (eqb (back m r t) i) n (stands-apart r h)))
     where
       special : S m k c ≡ S m k a ⊕ cond (eqb (m - 1 - t) i) n 0
       special =
           S-diagonal m k c big ∙ sum-grown (back m (m - 1))
           ∙ ap₂ _⊕_ (sym (S-diagonal m k a big)) (ap (λ (z : ℕ). cond (eqb z i) n 0) (last-back m t big (omega arith)))
 
-      tidy : (x y z s e : ℕ) → x ⊕ (y ⊕ z) ⊕ (s ⊕ y ⊕ (e ⊕ z)) ≡ x ⊕ (s ⊕ e)
-      tidy x y z s e = simp xor
+      tidy : (x y z w : ℕ) → x ⊕ y ⊕ (z ⊕ w) ≡ x ⊕ z ⊕ (y ⊕ w)
+      tidy x y z w = simp xor
+
+-- A parity cell grew as its equation did exactly where its amount is what it was.
+amount-kept : (a c x y n : ℕ) → c ≡ a ⊕ n → y ≡ x ⊕ n → c ⊕ y ≡ a ⊕ x
+amount-kept a c x y n p q = ap₂ _⊕_ p q ∙ tidy a n x
+  where
+    tidy : (a n x : ℕ) → a ⊕ n ⊕ (x ⊕ n) ≡ a ⊕ x
+    tidy a n x = simp xor
+
+amount-grown : (a c x y n : ℕ) → c ⊕ y ≡ a ⊕ x → y ≡ x ⊕ n → c ≡ a ⊕ n
+amount-grown a c x y n p q = ⊕-move c y (a ⊕ x) p ∙ ap (λ (z : ℕ). a ⊕ x ⊕ z) q ∙ tidy a x n
+  where
+    tidy : (a x n : ℕ) → a ⊕ x ⊕ (x ⊕ n) ≡ a ⊕ n
+    tidy a x n = simp xor
+
+-- Where everything that depends on the cell grew by n, all amounts are what they were; and the other way round.
+module _ (m k t i n : ℕ) (a c : Lane) (big : 1 < m) (few : k ≤ m) (ht : t < k) (hi : i < m - 1) where
+  pub rows-kept : ((r x : ℕ) → r < m - 1 → x < k + 2 → c r x ≡ a r x ⊕ cond (depends m k t i r x) n 0) → (r : ℕ) → r < m - 1 → amountH m k c r ≡ amountH m k a r
+  unfolding amountH
+  rows-kept grown r h = amount-kept _ _ _ _ _ (grown r k h (omega arith)) (H-grown m k t i n a c big few ht hi (λ r x hr hx. grown r x hr (omega arith)) r)
+
+  pub diagonals-kept : ((r x : ℕ) → r < m - 1 → x < k + 2 → c r x ≡ a r x ⊕ cond (depends m k t i r x) n 0) → (r : ℕ) → r < m - 1 → amountD m k c r ≡ amountD m k a r
+  unfolding amountD
+  diagonals-kept grown r h = amount-kept _ _ _ _ _ (grown r (k + 1) h (omega arith)) (D-grown m k t i n a c big few ht hi (λ r x hr hx. grown r x hr (omega arith)) r h)
+
+  pub parity-grown : ((r x : ℕ) → r < m - 1 → x < k → c r x ≡ a r x ⊕ cond (depends m k t i r x) n 0)
+      → ((r : ℕ) → r < m - 1 → (amountH m k c r ≡ amountH m k a r) × (amountD m k c r ≡ amountD m k a r))
+      → (r x : ℕ) → r < m - 1 → x < k + 2 → c r x ≡ a r x ⊕ cond (depends m k t i r x) n 0
+  unfolding amountH amountD
+  parity-grown grown same r x hr hx = elim (decLt x k) [
+    | yes low ↦ grown r x hr low
+    | no high ↦ elim (ℕ-discrete x k) [
+      | yes e ↦ rw e (amount-grown _ _ _ _ _ (same r hr .0) (H-grown m k t i n a c big few ht hi grown r))
+      | no ne ↦ let e : x ≡ k + 1 = omega (arith, ne) in rw e (amount-grown _ _ _ _ _ (same r hr .1) (D-grown m k t i n a c big few ht hi grown r hr))
+    ]
+  ]
 
 -- So that is all that is to be shown of a changed cell.
 pub of-grown : (m k b t i : ℕ) (s v new : List ℕ) → 1 < m → k ≤ m → t < k → i < m - 1 → length v ≡ length s

@@ -1,21 +1,31 @@
 -- What follows from change's promise: the proofs of the statements in specs/EndToEnd that are about it. Data and amounts make a stripe, and change says of both
 -- what they become.
 --   done            where all that change asks is so, it is done
+--   all-grown       what the cells get added, and left-stripe: so what is left is bytes
 --   same-counts     the same amounts, the same counts
 --   near-too, one-too, same-rules   what is near to one stripe has its like near to another that has the same amounts
-use mathlib.Core.Path.{_≡_, refl, sym, ap, _∙_}
-use mathlib.Core.Logic.{inl, inr}
-use mathlib.Core.Bool.{not}
+use mathlib.Core.Path.{_≡_, refl, sym, ap, ap₂, _∙_}
+use mathlib.Core.Logic.{_≢_, inl, inr}
+use mathlib.Core.Bool.{Bool, true, false, cond, not}
 use mathlib.Core.List.{List, [], _∷_}
-use Prim.Native.Nat.{ℕ, _+_, _-_}
+use Prim.Native.Nat.{ℕ, _+_, _-_, _≤_, _<_}
+use native.Mathlib.Decide.{ℕ-discrete, decLt}
+use native.Mathlib.Omega.{arith}
 use lib.Dec.{eqb}
-use lib.ListN.{length}
-use Rattle.parity.specs.Stripe.{byte, Stripe, Valid, brokenRows, brokenDiagonals}
+use lib.ListN.{length, getD, List·getD-eq-default}
+use borrow.Author.Tests.{eq-eqb, ne-eqb}
+use Rattle.parity.specs.Xor.{_⊕_}
+use Rattle.parity.specs.Shape.{stripeLength}
+use Rattle.parity.specs.Stripe.{byte, lane, Stripe, Valid, brokenRows, brokenDiagonals}
 use Rattle.parity.specs.Presence.{differing}
-use Rattle.parity.specs.Change.{SameAmounts}
-use Rattle.parity.proofs.Columns.{same-column}
+use Rattle.parity.specs.Change.{depends, SameAmounts}
+use Rattle.parity.proofs.Xor.{⊕-zero, ⊕-cancel, ⊕-lt}
+use Rattle.parity.proofs.Bytes.{each-place}
+use Rattle.parity.proofs.Columns.{same-column, column-same}
+use Rattle.parity.proofs.Stripes.{byte-lt}
+use Rattle.changing.proofs.Changed.{parity-grown}
 use Rattle.parity.proofs.Count.{count-cong, some-cong}
-use Rattle.parity.proofs.Change.{by-cell, data-stays, same-data-amounts, amounts-back, amounts-both, valid-amounts, amounts-valid, moved-along}
+use Rattle.parity.proofs.Change.{depends-itself, depends-none, by-cell, data-stays, same-data-amounts, amounts-back, amounts-both, valid-amounts, amounts-valid, moved-along}
 use Rattle.refusals.specs.declared.Refusal.the-variants.{Unmendable}
 use Rattle.refusals.specs.Refusals.{Verdict, pass, refuse, Gives}
 use Rattle.refusals.proofs.Rules.{passes-not, refuse-one, gives-one, gives-instead}
@@ -33,7 +43,8 @@ use Rattle.evenodd.specs.Checks.{rowsOf, diagonalsOf, Checks}
 use Rattle.evenodd.specs.Locates as locates
 use Rattle.evenodd.specs.Locates.{locateRules, OneDiffers, Locates}
 use Rattle.evenodd.specs.Changes.{verdictOf, changeRules, Changes}
-use Rattle.evenodd.specs.EndToEnd.{ChangeAsEncode, ChangeKeepsBroken, ChangeKeepsBlame, ChangeBack, ChangesCommute}
+use Rattle.evenodd.specs.EndToEnd.{RestoreGivesBack, ChangeAdds, ChangeAsEncode, ChangeKeepsBroken, ChangeKeepsBlame, ChangeBack, ChangesCommute, ChangeWhileAbsent}
+use Rattle.evenodd.proofs.EndToEnd.{restore-gives-back}
 use Rattle.evenodd.proofs.Changed.{Fitting, change-given, change-passed}
 
 done-of : (q : Changed) → verdictOf q ≡ pass → q ≡ changed.Done
@@ -43,6 +54,63 @@ done-of (changed.Refused f) e = absurd (passes-not f (sym e))
 -- where all that change asks is so, it is done
 done : {m k b column row : ℕ} {cell s after : List ℕ} (q : Changed) → Fitting m k b column row cell s → Changes m k b column row cell s after q → q ≡ changed.Done
 done {m} {k} {b} {column} {row} {cell} {s} q f p = done-of q (gives-one (changeRules m k b column row cell s) _ _ (p .told) (change-passed m k b column row cell s f))
+
+-- ---- what the cells get added
+
+-- Two stripes with the same data but for the cell in row `row` of column `column`, which in the second holds `cell`, and with the same amounts: each cell that depends
+-- on it has added what it changed by.
+module _ (m k b column row : ℕ) (cell s v : List ℕ) (big : 1 < m) (few : k ≤ m) (inside : column < k) (real : row < m - 1)
+    (new : (l : ℕ) → l < b → byte m b v l row column ≡ getD cell l 0)
+    (others : (l i t : ℕ) → l < b → i < m - 1 → t < k → (t ≡ column → i ≢ row) → byte m b v l i t ≡ byte m b s l i t)
+    (same : SameAmounts m k b s v) where
+  -- so have the data cells
+  data-grown : (l i t : ℕ) → l < b → i < m - 1 → t < k → byte m b v l i t ≡ byte m b s l i t ⊕ cond (depends m k column row i t) (byte m b s l row column ⊕ getD cell l 0) 0
+  data-grown l i t hl hi ht = by-cell (byte m b v l i t ≡ byte m b s l i t ⊕ cond (depends m k column row i t) (byte m b s l row column ⊕ getD cell l 0) 0) t i column row
+      (λ e d. rw (e, d) (
+      new l hl ∙ sym (⊕-cancel (byte m b s l row column) (getD cell l 0))
+      ∙ ap (λ (y : Bool). byte m b s l row column ⊕ cond y (byte m b s l row column ⊕ getD cell l 0) 0) (sym (depends-itself m k column row inside row ∙ eq-eqb row row refl))))
+      (λ other.
+      others l i t hl hi ht other ∙ sym (⊕-zero (byte m b s l i t))
+      ∙ ap (λ (y : Bool). byte m b s l i t ⊕ cond y (byte m b s l row column ⊕ getD cell l 0) 0) (sym (not-depends i t ht other)))
+    where
+      not-depends : (i t : ℕ) → t < k → (t ≡ column → i ≢ row) → depends m k column row i t ≡ false
+      not-depends i t ht other = elim (ℕ-discrete t column) [
+        | yes e ↦ rw e (depends-itself m k column row inside i ∙ ne-eqb i row (other e))
+        | no ne ↦ depends-none m k column row inside i t ht ne
+      ]
+
+  all-grown : (l i t : ℕ) → l < b → i < m - 1 → t < k + 2 → byte m b v l i t ≡ byte m b s l i t ⊕ cond (depends m k column row i t) (byte m b s l row column ⊕ getD cell l 0) 0
+  all-grown l i t hl hi ht =
+      parity-grown m k column row (byte m b s l row column ⊕ getD cell l 0) (lane m b s l) (lane m b v l) big few inside real
+      (λ i t hi ht. data-grown l i t hl hi ht) (λ i hi. (same .rows l i hl hi, same .diagonals l i hl hi)) i t hi ht
+
+pub change-adds : ChangeAdds
+unfolding ChangeAdds
+change-adds m k b column row cell s after p =
+    let f = change-given m k b column row cell s (p .told) in
+    all-grown m k b column row cell s after (f .shape .value .prime .big) (f .shape .few) (f .datum) (f .real) (p .left .new) (data-stays (f .datum) (p .left)) (p .left .amounts)
+
+-- what is left is bytes where the stripe and the new cell were
+left-stripe : (m k b column row : ℕ) (cell s after : List ℕ) → Changes m k b column row cell s after changed.Done → Stripe m k b s → ((l : ℕ) → getD cell l 0 < 256) → Stripe m k b after
+unfolding ChangeAdds
+left-stripe m k b column row cell s after p st small = record {
+  whole = whole;
+  bytes = λ x. elim (decLt x (length after)) [
+    | yes h ↦ each-place m k b (f .shape .value .prime .big) (f .shape .filled) (λ n. n < 256) after whole (λ l i t hl hi ht.
+        rw (change-adds m k b column row cell s after p l i t hl hi ht) (⊕-lt _ _ (byte-lt m k b s st l i t) (either (depends m k column row i t) (⊕-lt _ _ (byte-lt m k b s st l row column) (small l))))) x h
+    | no h ↦ rw (List·getD-eq-default after 0 {n = x} (omega arith)) (omega arith)
+  ];
+}
+  where
+    f : Fitting m k b column row cell s
+    f = change-given m k b column row cell s (p .told)
+
+    whole : length after ≡ stripeLength m k b
+    whole = p .left .size ∙ f .whole
+
+    either : (y : Bool) {n : ℕ} → n < 256 → cond y n 0 < 256
+    either true h = h
+    either false h = omega arith
 
 -- ---- a fresh encode
 
@@ -93,7 +161,7 @@ change-keeps-broken m k b column row cell s after p = (
       let y = counts m k b after q (stripe-passed m k b (length after) (f .shape) (p .left .size ∙ f .whole)) cq in
       let e = same-counts m k b s after (p .left .amounts) in
       (x .0 ∙ e .0 ∙ sym (y .0), x .1 ∙ e .1 ∙ sym (y .1)),
-  λ ps pv. (λ v. amounts-valid v (p .left .amounts) pv, λ v. amounts-valid v (amounts-back (p .left .amounts)) ps),
+  λ ps small. (λ v. amounts-valid v (p .left .amounts) (left-stripe m k b column row cell s after p ps small), λ v. amounts-valid v (amounts-back (p .left .amounts)) ps),
 )
   where
     f : Fitting m k b column row cell s
@@ -137,7 +205,8 @@ module _ (m k b : ℕ) (s v : List ℕ) (ps : Stripe m k b s) (pv : Stripe m k b
 
 pub change-keeps-blame : ChangeKeepsBlame
 unfolding ChangeKeepsBlame
-change-keeps-blame m k b column row cell s after r q ps pv p pr pq =
+change-keeps-blame m k b column row cell s after r q ps small p pr pq =
+    let pv = left-stripe m k b column row cell s after p ps small in
     let same = p .left .amounts in
     let other = amounts-back same in (
       λ u. (still-named m k b s after ps pv same r q pr pq u, still-named m k b after s pv ps other q r pq pr u),
@@ -199,3 +268,31 @@ changes-commute m k b column row column′ row′ cell cell′ s one two both ot
         data-stays (f′ .datum) (w .left) l i t hl hi ht second ∙ data-stays (f .datum) (p .left) l i t hl hi ht first
         ∙ sym (data-stays (f .datum) (w′ .left) l i t hl hi ht first ∙ data-stays (f′ .datum) (p′ .left) l i t hl hi ht second))))
         (amounts-both (amounts-back (amounts-both (p .left .amounts) (w .left .amounts))) (amounts-both (p′ .left .amounts) (w′ .left .amounts)))
+
+-- ---- with columns absent
+
+pub change-while-absent : ChangeWhileAbsent
+unfolding ChangeWhileAbsent ChangeAdds RestoreGivesBack
+change-while-absent m k b column row map cell v s after edited fresh before bench r valid size agrees there p edit enc held truth clear few-absent rest =
+    restore-gives-back m k b map edited fresh after before bench r enc (p .left .size ∙ f .whole ∙ sym (fresh-valid .stripe .whole)) (record {
+      at = λ t ht here. column-same m b fresh after t (λ l i hl hi.
+          added l i t hl hi ht
+          ∙ ap₂ (λ x y. x ⊕ cond (depends m k column row i t) (y ⊕ getD cell l 0) 0) (same-column m b v s t (agrees .at t ht here) l i hl hi) (same-column m b v s column (agrees .at column in-columns there) l row hl (f .real))
+          ∙ sym (change-adds m k b column row cell s after p l i t hl hi ht));
+    }) held truth clear few-absent rest
+  where
+    f : Fitting m k b column row cell s
+    f = change-given m k b column row cell s (p .told)
+
+    fresh-valid : Valid m k b fresh
+    fresh-valid = enc .written .0
+
+    in-columns : column < k + 2
+    in-columns = omega (arith, f .datum)
+
+    -- encode of the edited data adds to the cells of the first stripe what a change would
+    added : (l i t : ℕ) → l < b → i < m - 1 → t < k + 2 → byte m b fresh l i t ≡ byte m b v l i t ⊕ cond (depends m k column row i t) (byte m b v l row column ⊕ getD cell l 0) 0
+    added = all-grown m k b column row cell v fresh (f .shape .value .prime .big) (f .shape .few) (f .datum) (f .real)
+        (λ l hl. sym (same-column m b edited fresh column (enc .written .1 column (f .datum)) l row hl (f .real)) ∙ edit .new l hl)
+        (λ l i t hl hi ht other. sym (same-column m b edited fresh t (enc .written .1 t ht) l i hl hi) ∙ edit .others l i t hl hi ht other)
+        (valid-amounts valid fresh-valid)

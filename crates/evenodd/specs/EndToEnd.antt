@@ -13,12 +13,15 @@
 --   RestoreAsRewrite   where rewrite of a column passes, restore with that column absent, and at most one other, passes too and gives what rewrite leaves;
 --                      where rewrite gives 5, restore with that column absent and no other does
 -- Where change is done:
+--   ChangeAdds         every cell that depends on the changed one has added what that changed by, and every other cell nothing
 --   ChangeAsEncode     a valid stripe becomes what encode makes of its data with that cell edited
 --   ChangeKeepsBroken  exactly the equations that were broken are broken afterwards, in every lane; so check counts the same, and a stripe is valid exactly
 --                      when it was
 --   ChangeKeepsBlame   locate names the column that it named, or none as before, and gives 6 exactly where it did
 --   ChangeBack         changed back to the bytes that it held, the cell gives the stripe back
 --   ChangesCommute     two changes of different cells leave the same in either order
+--   ChangeWhileAbsent  at most two columns of a valid stripe are absent, whatever stands in their places, and the cell's own is none of them: a change,
+--                      and then restore, give what encode makes of the data with that cell edited
 -- Where exactly two columns of a valid stripe were changed (`TwoChanged`):
 --   SixOrAThird        check says neither intact nor blank and is not refused, and locate gives 6 or names a column that is neither of the two
 --   AnyThirdNamed      it can be any third that is named, whatever the stripe and whichever the two
@@ -34,9 +37,11 @@ use mathlib.Core.List.{List, [], _∷_}
 use Prim.Native.Nat.{ℕ, _+_, _-_, _≤_, _<_}
 use lib.ListN.{length, getD}
 use Rattle.parity.specs.Shape.{member, Shape, benchLength}
+use Rattle.parity.specs.Xor.{_⊕_}
 use Rattle.parity.specs.Equations.{amountH, amountD}
 use Rattle.parity.specs.Stripe.{byte, lane, Stripe, Valid, Blank}
 use Rattle.parity.specs.Presence.{present, absences, differing, DifferIn, Agrees, AgreesBut}
+use Rattle.parity.specs.Change.{depends}
 use Rattle.parity.specs.Theorems.{TwoChanged}
 use Rattle.maps.specs.declared.Map.{Map}
 use Rattle.refusals.specs.declared.Refusal.{Refusal}
@@ -166,6 +171,10 @@ RestoreAsRewrite = (m k b column : ℕ) (map : Map) (s before after left : List 
     → (q ≡ rewritten.Done → (verdictOf r ≡ pass) × Together m k b (map .places) s after left)
     × (AbsentAre k (column ∷ []) (map .places) → q ≡ rewritten.Refused Contradicted → r ≡ restored.Refused Contradicted)
 
+unfoldable pub ChangeAdds : Type 0
+ChangeAdds = (m k b column row : ℕ) (cell s after : List ℕ) → Changes m k b column row cell s after changed.Done → (l i t : ℕ) → l < b → i < m - 1 → t < k + 2
+    → byte m b after l i t ≡ byte m b s l i t ⊕ cond (depends m k column row i t) (byte m b s l row column ⊕ getD cell l 0) 0
+
 -- the data of `edited` is that of s, but that the cell in row `row` of column `column` holds the bytes of `cell`; what its H and D hold is left open
 pub record Edited (m k b column row : ℕ) (cell s edited : List ℕ) : Type 0 where
   pub size : length edited ≡ length s
@@ -185,11 +194,11 @@ unfoldable pub ChangeKeepsBroken : Type 0
 ChangeKeepsBroken = (m k b column row : ℕ) (cell s after : List ℕ) → Changes m k b column row cell s after changed.Done
     → SameBroken m k b s after
     × ((r q : Checked) → Checks m k b s r → Checks m k b after q → (rowsOf r ≡ rowsOf q) × (diagonalsOf r ≡ diagonalsOf q))
-    × (Stripe m k b s → Stripe m k b after → Valid m k b s ↔ Valid m k b after)
+    × (Stripe m k b s → ((l : ℕ) → getD cell l 0 < 256) → Valid m k b s ↔ Valid m k b after)
 
 unfoldable pub ChangeKeepsBlame : Type 0
-ChangeKeepsBlame = (m k b column row : ℕ) (cell s after : List ℕ) (r q : Located) → Stripe m k b s → Stripe m k b after → Changes m k b column row cell s after changed.Done
-    → Locates m k b s r → Locates m k b after q
+ChangeKeepsBlame = (m k b column row : ℕ) (cell s after : List ℕ) (r q : Located) → Stripe m k b s → ((l : ℕ) → getD cell l 0 < 256)
+    → Changes m k b column row cell s after changed.Done → Locates m k b s r → Locates m k b after q
     → ((u : ℕ) → (r ≡ located.Column u) ↔ (q ≡ located.Column u)) × ((r ≡ located.Refused Unmendable) ↔ (q ≡ located.Refused Unmendable))
 
 unfoldable pub ChangeBack : Type 0
@@ -202,6 +211,13 @@ ChangesCommute = (m k b column row column′ row′ : ℕ) (cell cell′ s one t
     → Changes m k b column row cell s one changed.Done → Changes m k b column′ row′ cell′ s two changed.Done
     → Changes m k b column′ row′ cell′ one both r → Changes m k b column row cell two other q
     → (r ≡ changed.Done) × (q ≡ changed.Done) × (both ≡ other)
+
+unfoldable pub ChangeWhileAbsent : Type 0
+ChangeWhileAbsent = (m k b column row : ℕ) (map : Map) (cell v s after edited fresh before bench : List ℕ) (r : Restored) → Valid m k b v
+    → length s ≡ length v → Agrees m k b (map .places) v s → present (map .places) column ≡ true → Changes m k b column row cell s after changed.Done
+    → Edited m k b column row cell v edited → Encodes m k b edited fresh encoded.Done
+    → length before ≡ benchLength m b → TrueMap map → (Stray k (map .places) → ⊥) → absences k (map .places) ≤ 2
+    → Restores m k b map after before bench r → GivenBack m b fresh before bench r
 
 unfoldable pub SixOrAThird : Type 0
 SixOrAThird = (m k b x y : ℕ) (s wrong : List ℕ) (r : Checked) (q : Located) → Shape m k b → TwoChanged m k b x y s wrong → Checks m k b wrong r → Locates m k b wrong q

@@ -73,7 +73,9 @@ test (changed m k b column row cell s v) =
     both (both (equal (length v) (length s)) (every b (λ l. equal (byte m b v l row column) (getD cell l 0))))
     (every b (λ l. every (m - 1) (λ i.
     both (both (equal (amountH m k (lane m b v l) i) (amountH m k (lane m b s l) i)) (equal (amountD m k (lane m b v l) i) (amountD m k (lane m b s l) i)))
-    (every (k + 2) (λ t. orElse (is (depends m k column row i t) true) (equal (byte m b v l i t) (byte m b s l i t)))))))
+    (every (k + 2) (λ t.
+    both (orElse (is (depends m k column row i t) true) (equal (byte m b v l i t) (byte m b s l i t)))
+    (orElse (is (depends m k column row i t) false) (unequal (byte m b v l i t) (byte m b s l i t))))))))
 
 tests : List Claim → Test
 tests [] = atMost 0 0
@@ -144,12 +146,15 @@ module _ (table : Table) (at-most-one : AtMostOne) where
     some = record { l = l; i = i; t = t; inside = (hl, hi, ht); there = there };
   }
   sound (blank m k b s) ((zeros, good), (rows, diagonals)) = (zeros-blank m k b s (zeros-past s zeros), valid-sound m k b s good, rows, diagonals)
-  sound (changed m k b column row cell s v) ((size, new), each) = record {
-    size = size;
-    new = new;
-    amounts = record { rows = λ l i hl hi. each l hl i hi .0 .0; diagonals = λ l i hl hi. each l hl i hi .0 .1 };
-    stays = λ l i t hl hi ht alone. each l hl i hi .1 t ht (λ e. true≢false (sym e ∙ alone));
-  }
+  sound (changed m k b column row cell s v) ((size, new), each) = (
+    record {
+      size = size;
+      new = new;
+      amounts = record { rows = λ l i hl hi. each l hl i hi .0 .0; diagonals = λ l i hl hi. each l hl i hi .0 .1 };
+      stays = λ l i t hl hi ht alone. each l hl i hi .1 t ht .0 (λ e. true≢false (sym e ∙ alone));
+    },
+    λ l i t hl hi ht so. each l hl i hi .1 t ht .1 (λ e. true≢false (sym so ∙ e)),
+  )
 
   all-sound : (cs : List Claim) → Says (tests cs) → All cs
   unfolding tests

@@ -15,7 +15,8 @@ use lib.ListN.{length, getD}
 use Rattle.parity.specs.Equations.{back, amountH, amountD}
 use Rattle.parity.specs.Stripe.{byte, lane}
 
--- S has the cell in row m - 1 - t of each column t; of column 0 that is the imaginary row, which is no cell's
+-- S has the cell in row m - 1 - t of each column t; of column 0 that is the imaginary row, which is no cell's. A cell never stands in an equation twice: S is
+-- diagonal m - 1, and i is below that
 unfoldable pub standsInD : ℕ → ℕ → ℕ → ℕ → Bool
 standsInD m column row i = eqb (m - 1 - column) row || eqb (back m i column) row
 

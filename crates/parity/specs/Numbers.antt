@@ -3,13 +3,13 @@ use mathlib.Core.Path.{_≡_}
 use mathlib.Core.Logic.{_≢_}
 use mathlib.Core.Bool.{Bool, true, false}
 use mathlib.Core.List.{List, [], _∷_}
-use Prim.Native.Nat.{ℕ, _≤_, _<_}
+use Prim.Native.Nat.{ℕ, _+_, _-_, _≤_, _<_}
 use lib.Dec.{eqb}
 use lib.ListN.{getD}
 use Rattle.parity.specs.Equations.{S}
-use Rattle.parity.specs.Stripe.{lane, Valid, brokenRows, brokenDiagonals, Blank, Intact}
+use Rattle.parity.specs.Stripe.{byte, lane, Valid, brokenRows, brokenDiagonals, Blank, Intact}
 use Rattle.parity.specs.Presence.{absences, differing, DifferIn, Agrees}
-use Rattle.parity.specs.Change.{CellChanged}
+use Rattle.parity.specs.Change.{depends, CellChanged}
 
 -- a shape's m, k and b come first
 pub data Claim : Type 0 where
@@ -33,7 +33,8 @@ pub data Claim : Type 0 where
   intact : ℕ → ℕ → ℕ → List ℕ → Claim
   -- the stripe is blank: it is valid, and no row or diagonal breaks
   blank : ℕ → ℕ → ℕ → List ℕ → Claim
-  -- with the cell in that row of that column (the column is named first) changed to this one, the first stripe becomes the second
+  -- with the cell in that row of that column (the column is named first) changed to this one, the first stripe becomes the second, and every cell that
+  -- depends on it differs
   changed : ℕ → ℕ → ℕ → ℕ → ℕ → List ℕ → List ℕ → List ℕ → Claim
 
 abbrev pub Means : Claim → Type 0
@@ -49,7 +50,8 @@ Means (wrong m k b s u v) = Valid m k b v × DifferIn m k b (eqb u) s v
 Means (unmendable m k b s) = (v : List ℕ) → Valid m k b v → 2 ≤ differing m k b s v
 Means (intact m k b s) = Intact m k b s
 Means (blank m k b s) = Blank m k b s × Valid m k b s × (brokenRows m k b s ≡ 0) × (brokenDiagonals m k b s ≡ 0)
-Means (changed m k b column row cell s v) = CellChanged m k b column row cell s v
+Means (changed m k b column row cell s v) =
+    CellChanged m k b column row cell s v × ((l i t : ℕ) → l < b → i < m - 1 → t < k + 2 → depends m k column row i t ≡ true → byte m b v l i t ≢ byte m b s l i t)
 
 abbrev pub All : List Claim → Type 0
 All [] = Unit {0}
@@ -87,7 +89,7 @@ numbers =
     -- C1 in two lanes, of which the first is wrong in column 0 and the second in column 1. No column is wrong in both
     ∷ counted 3 3 2 (0x00 ∷ 0x01 ∷ 0x02 ∷ 0x02 ∷ 0x04 ∷ 0x05 ∷ 0x08 ∷ 0x08 ∷ 0x10 ∷ 0x10 ∷ 0x20 ∷ 0x20 ∷ 0x15 ∷ 0x15 ∷ 0x2a ∷ 0x2a ∷ 0x39 ∷ 0x39 ∷ 0x1e ∷ 0x1e ∷ []) 1 2
     ∷ unmendable 3 3 2 (0x00 ∷ 0x01 ∷ 0x02 ∷ 0x02 ∷ 0x04 ∷ 0x05 ∷ 0x08 ∷ 0x08 ∷ 0x10 ∷ 0x10 ∷ 0x20 ∷ 0x20 ∷ 0x15 ∷ 0x15 ∷ 0x2a ∷ 0x2a ∷ 0x39 ∷ 0x39 ∷ 0x1e ∷ 0x1e ∷ [])
-    -- C1 with a cell changed: on diagonal 1, on diagonal 0, which it reaches from row 2 by the wrap, and on the diagonal of S
+    -- C1 with a cell changed: row 0 of column 1, on diagonal 1; row 1 of column 2, on diagonal 0, past its jump to row 2; row 1 of column 1, on the diagonal of S
     ∷ changed 3 3 1 1 0 (0xff ∷ []) (0x01 ∷ 0x02 ∷ 0x04 ∷ 0x08 ∷ 0x10 ∷ 0x20 ∷ 0x15 ∷ 0x2a ∷ 0x39 ∷ 0x1e ∷ []) (0x01 ∷ 0x02 ∷ 0xff ∷ 0x08 ∷ 0x10 ∷ 0x20 ∷ 0xee ∷ 0x2a ∷ 0x39 ∷ 0xe5 ∷ [])
     ∷ changed 3 3 1 2 1 (0xff ∷ []) (0x01 ∷ 0x02 ∷ 0x04 ∷ 0x08 ∷ 0x10 ∷ 0x20 ∷ 0x15 ∷ 0x2a ∷ 0x39 ∷ 0x1e ∷ []) (0x01 ∷ 0x02 ∷ 0x04 ∷ 0x08 ∷ 0x10 ∷ 0xff ∷ 0x15 ∷ 0xf5 ∷ 0xe6 ∷ 0x1e ∷ [])
     ∷ changed 3 3 1 1 1 (0xff ∷ []) (0x01 ∷ 0x02 ∷ 0x04 ∷ 0x08 ∷ 0x10 ∷ 0x20 ∷ 0x15 ∷ 0x2a ∷ 0x39 ∷ 0x1e ∷ []) (0x01 ∷ 0x02 ∷ 0x04 ∷ 0xff ∷ 0x10 ∷ 0x20 ∷ 0x15 ∷ 0xdd ∷ 0xce ∷ 0xe9 ∷ [])
