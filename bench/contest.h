@@ -44,8 +44,9 @@ extern struct rival owns[OWNS];
 extern uint8_t refused; /* not 0 once the library has refused a call, or found what is not so */
 work spoil;
 
-/* The cell of the next CHANGE, which lies on no diagonal of S, or of the next CHANGE_S, which does; and the bytes that it is to hold, others
-   each time. One call goes on to the next column, so that in a stripe that is in no cache the cell is not either. */
+/* The cell of the next CHANGE, which does not lie on the diagonal of S, or of the next CHANGE_S, which does; and the bytes that it is to hold,
+   others each time. Each call goes on to the next column and the next row, so that in a stripe that is in no cache the cell is not either; H and D
+   are two columns, and may be. To choose it takes some 4 ns, which are in the time of every contestant. */
 struct cell {
     size_t column, row;
     const uint8_t *bytes;

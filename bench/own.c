@@ -43,7 +43,7 @@ struct cell next_cell(const struct shape *p, enum op op) {
     static size_t n;
     if (n++ == 0)
         for (size_t j = 0; j < sizeof bytes; j++) bytes[j] = (uint8_t)(j * j >> 3);
-    struct cell c = {n % p->k, n / p->k % (p->m - 1), bytes + n % 4096};
+    struct cell c = {n % p->k, (n + n / p->k) % (p->m - 1), bytes + n % 4096};
     if (op == CHANGE_S) c.column = 1 + n % (p->k - 1), c.row = p->m - 1 - c.column;
     else if (c.row + c.column == p->m - 1) c.row = (c.row + 1) % (p->m - 1);
     return c;

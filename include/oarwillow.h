@@ -10,7 +10,7 @@
  *
  * What C must see to: each pointer is valid for the length that goes with it, and may be null where that length is 0; maps and the
  * pointers to numbers are not null; numbers behind pointers are aligned as their type is; no two of a call's pointers overlap, save that
- * buffers that are only read may be the same. Bytes may stand at any address: stripes, benches, images and maps need no alignment.
+ * buffers that are only read may be the same. Bytes may stand at any address: stripes, benches, images, cells and maps need no alignment.
  *
  * What a call needs: its stack, less than 64 KiB, so that a thread of 128 KiB is safe (as measured, rewrite takes 55 KiB, locate 44,
  * check and restore 40, each other call 5 at most); and memcpy, memmove and memset, which the compiler may call. It allocates nothing, has no
@@ -38,7 +38,7 @@ enum oarwillow_refusal {
     OARWILLOW_AMBIGUOUS = 4,      /* three or more columns absent */
     OARWILLOW_CONTRADICTED = 5,   /* no valid stripe agrees with every column that is read: restore with at most two absent, rewrite */
     OARWILLOW_UNMENDABLE = 6,     /* locate: no valid stripe differs in at most one column */
-    OARWILLOW_NO_SUCH_COLUMN = 7, /* column number not below k + 2; in change, where it must be a data column's, not below k */
+    OARWILLOW_NO_SUCH_COLUMN = 7, /* column number not below k + 2, in change not below k */
     OARWILLOW_MALFORMED = 8,      /* image malformed */
     OARWILLOW_STRAY_COLUMN = 9,   /* map has a place at or above k + 2 present */
     OARWILLOW_TOO_LONG = 10,      /* program input longer than 16,384 bytes; never from these calls */
@@ -61,7 +61,7 @@ static inline const char *oarwillow_reason(uint8_t number)
     case OARWILLOW_AMBIGUOUS: return "three or more columns absent";
     case OARWILLOW_CONTRADICTED: return "no valid stripe agrees with every column that is read";
     case OARWILLOW_UNMENDABLE: return "no valid stripe differs in at most one column";
-    case OARWILLOW_NO_SUCH_COLUMN: return "column number not below k + 2, or in change not below k";
+    case OARWILLOW_NO_SUCH_COLUMN: return "column number not below k + 2, in change not below k";
     case OARWILLOW_MALFORMED: return "image malformed";
     case OARWILLOW_STRAY_COLUMN: return "map has a place at or above k + 2 present";
     case OARWILLOW_TOO_LONG: return "program input longer than 16,384 bytes";
@@ -119,13 +119,20 @@ uint8_t oarwillow_locate(size_t m, size_t k, size_t b, const uint8_t *stripe, si
 uint8_t oarwillow_rewrite(size_t m, size_t k, size_t b, uint8_t *stripe, size_t stripe_len, size_t column);
 
 /* Changes the cell in that row of that data column to the b bytes of `cell`, and with it the parity cells that depend on it: H's cell in
- * its row, and D's cell of its diagonal, or every cell of D where it lies on the diagonal of S (row m - 1 - column). No other byte is
- * read or written, so the cost does not grow with k, and with m on the diagonal of S alone. A valid stripe becomes what oarwillow_encode
- * would make of the edited data. Of any other exactly the same equations are broken afterwards, each by the same amount: no damage is
- * covered up, oarwillow_check counts what it counted, and oarwillow_locate names the column that it named. So nothing is judged, and
- * nothing is mended either: where the column is wrong in that very cell, a rewrite of it later puts the new bytes there with the damage
- * added, and where it was not read, what stands in its place goes into H and D. Check a stripe that you do not trust, and restore what
- * is absent, before you change it. Refusals: 1, 12, 13, 2, 7 for a column not below k (H and D cannot be named), 11, 14. */
+ * its row, and D's cell in row (row + column) mod m; where that is m - 1 the cell lies on the diagonal of S, and every cell of D changes.
+ * No other byte is read or written, so the cost does not grow with k, and with m on the diagonal of S alone. Byte o of the data, counted
+ * from the start of the stripe, is in column o / ((m - 1) b), and there in row o % ((m - 1) b) / b.
+ *
+ * A valid stripe becomes what oarwillow_encode would make of the edited data; a blank one is changed as any other, and is not blank
+ * afterwards. Of a broken one exactly the same equations are broken afterwards, each by the same amount: no damage is covered up,
+ * oarwillow_check counts what it counted, and oarwillow_locate names the column that it named.
+ *
+ * The stripe must still hold the old bytes: build the new cell, all b bytes of it, in a buffer of your own, never in the stripe. The
+ * cell's own column must have been read, or copied to its place after it was restored; other columns may be absent, H and D too, and are
+ * restored after the change. What a bench was filled with before it is out of date. Nothing is judged: where the old bytes were wrong,
+ * the damage stays in H and D, and a rewrite of the column that oarwillow_locate names puts the new bytes there with the damage added.
+ * Make the same change once more after such a rewrite; or check, and mend, a stripe that you do not trust before you change it. Nobody
+ * may read or change the stripe meanwhile. Refusals: 1, 12, 13, 2, 7 for a column not below k (H and D cannot be named), 11, 14. */
 uint8_t oarwillow_change(size_t m, size_t k, size_t b, uint8_t *stripe, size_t stripe_len, size_t column, size_t row,
                          const uint8_t *cell, size_t cell_len);
 
