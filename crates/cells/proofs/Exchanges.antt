@@ -26,7 +26,7 @@ module _ (s t : List ℕ) (at one two n d : ℕ) (f : ℕ → ℕ) (low : at + n
   once = set t (one + n) (getD t (one + n) 0 ⊕ d)
 
   abbrev twice : List ℕ
-  twice = set once (two + n) (getD once (two + n) 0 ⊕ d)
+  twice = set once (two + n) (getD t (two + n) 0 ⊕ d)
 
   abbrev all : List ℕ
   all = set twice (at + n) (f n)
@@ -58,7 +58,7 @@ module _ (s t : List ℕ) (at one two n d : ℕ) (f : ℕ → ℕ) (low : at + n
   at-twice =
       getD-set-other twice (at + n) (two + n) _ 0 (λ e. absurd (omega (arith, e)))
       ∙ getD-set-same once (two + n) _ 0 (simp length-set (omega (arith, p .size)))
-      ∙ ap₂ _⊕_ (getD-set-other t (one + n) (two + n) _ 0 (λ e. absurd (omega (arith, e))) ∙ fresh-two) changed
+      ∙ ap₂ _⊕_ fresh-two changed
 
   pub exchanged-one : Exchanged s all at one two (n + 1) f
   exchanged-one = record {

@@ -115,16 +115,20 @@ pub fn add_through(w: &mut [u8], from: usize, mid: usize, to: usize, n: usize)
     }
 }
 
-// The bytes at `at` become those of new, and what they change by is added to as many bytes at `one` and at `two`. Byte for byte all is done at once.
+// The bytes at `at` become those of new, and what they change by is added to as many bytes at `one` and at `two`. Byte for byte all is done at once; all three are
+// read before one is written, since cells that lie 4,096 bytes apart hinder one another otherwise.
 pub fn exchange(w: &mut [u8], at: usize, one: usize, two: usize, new: &[u8])
     requires { ⌜ (at + length (now new) ≤ one) × (one + length (now new) ≤ two) × (two + length (now new) ≤ length (now w)) ⌝ }
     ensures { λ _. ⌜ Exchanged (now (w .entry)) (now (w .exit)) at one two (length (now (new .entry))) (λ l. getD (now (new .entry)) l 0) ⌝ }
 {
     for l in 0..new.len() {
-        let x = w[at + l] ^ new[l];
-        w[one + l] = w[one + l] ^ x;
-        w[two + l] = w[two + l] ^ x;
-        w[at + l] = new[l];
+        let v = new[l];
+        let x = w[at + l] ^ v;
+        let y = w[one + l] ^ x;
+        let z = w[two + l] ^ x;
+        w[one + l] = y;
+        w[two + l] = z;
+        w[at + l] = v;
     }
 }
 

@@ -9,7 +9,7 @@
 --   apart           no byte of a cell is one of another's
 --   changed-off-s, changed-on-s   what the code leaves of a stripe, off the diagonal of S and on it
 use mathlib.Core.Path.{_≡_, refl, sym, ap, ap₂, _∙_}
-use mathlib.Core.Logic.{_≢_, _⊎_, inl, inr}
+use mathlib.Core.Logic.{_≢_}
 use mathlib.Core.Bool.{Bool, true, false, cond, _||_}
 use mathlib.Core.List.{List}
 use Prim.Native.Nat.{ℕ, _+_, _-_, _*_, _≤_, _<_}
@@ -20,10 +20,9 @@ use lib.ListN.{length, getD}
 use borrow.Author.Tests.{eqb-true, eq-eqb, ne-eqb}
 use Rattle.parity.specs.Xor.{_⊕_}
 use Rattle.parity.specs.Sum.{sum}
-use Rattle.parity.specs.Shape.{columnLength}
 use Rattle.parity.specs.Equations.{Lane, cell, back, H, S, D, amountH, amountD}
-use Rattle.parity.specs.Stripe.{byte, lane}
-use Rattle.parity.specs.Change.{standsInD, depends, SameAmounts, CellChanged}
+use Rattle.parity.specs.Stripe.{lane}
+use Rattle.parity.specs.Change.{standsInD, depends, CellChanged}
 use Rattle.parity.proofs.Xor.{⊕-self, ⊕-zero, zero-⊕, ⊕-cancel, ⊕-move, xor, by-sum}
 use Rattle.parity.proofs.Sum.{sum-add, sum-one}
 use Rattle.parity.proofs.Cells.{diagonal, S-diagonal, cell-real, cell-below, cell-same}

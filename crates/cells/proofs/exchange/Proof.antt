@@ -20,44 +20,41 @@ abbrev μ-loop : tie.MeasureT-loop
 loop-holds : tie.Need-loop-holds Inv-loop μ-loop
 loop-holds c = (search needs, refl, exchanged-none (now (c .args .w)) (c .args .at) (c .args .one) (c .args .two) _)
 
+shared-slice-read-v : tie.Need-shared-slice-read-v Inv-loop μ-loop
+shared-slice-read-v c = search needs
+
 add-x : tie.Need-add-x Inv-loop μ-loop
 add-x c = search needs
 
 slice-read-x : tie.Need-slice-read-x Inv-loop μ-loop
 slice-read-x c = search needs
 
-shared-slice-read-x : tie.Need-shared-slice-read-x Inv-loop μ-loop
-shared-slice-read-x c = search needs
+add-y : tie.Need-add-y Inv-loop μ-loop
+add-y c = search needs
+
+slice-read-y : tie.Need-slice-read-y Inv-loop μ-loop
+slice-read-y c = search needs
+
+add-z : tie.Need-add-z Inv-loop μ-loop
+add-z c = search needs
+
+slice-read-z : tie.Need-slice-read-z Inv-loop μ-loop
+slice-read-z c = search needs
 
 add-w : tie.Need-add-w Inv-loop μ-loop
 add-w c = search needs
 
-slice-read-w : tie.Need-slice-read-w Inv-loop μ-loop
-slice-read-w c = search needs
+slice-write-w : tie.Need-slice-write-w Inv-loop μ-loop
+slice-write-w c = search needs
 
 add-w-2 : tie.Need-add-w-2 Inv-loop μ-loop
 add-w-2 c = search needs
 
-slice-write-w : tie.Need-slice-write-w Inv-loop μ-loop
-slice-write-w c = search needs
-
-add-w-3 : tie.Need-add-w-3 Inv-loop μ-loop
-add-w-3 c = search needs
-
-slice-read-w-2 : tie.Need-slice-read-w-2 Inv-loop μ-loop
-slice-read-w-2 c = simp length-set (omega arith)
-
-add-w-4 : tie.Need-add-w-4 Inv-loop μ-loop
-add-w-4 c = search needs
-
 slice-write-w-2 : tie.Need-slice-write-w-2 Inv-loop μ-loop
 slice-write-w-2 c = simp length-set (omega arith)
 
-shared-slice-read-w : tie.Need-shared-slice-read-w Inv-loop μ-loop
-shared-slice-read-w c = search needs
-
-add-w-5 : tie.Need-add-w-5 Inv-loop μ-loop
-add-w-5 c = search needs
+add-w-3 : tie.Need-add-w-3 Inv-loop μ-loop
+add-w-3 c = search needs
 
 slice-write-w-3 : tie.Need-slice-write-w-3 Inv-loop μ-loop
 slice-write-w-3 c = simp length-set (omega arith)
@@ -71,9 +68,9 @@ loop-less c = search needs
 loop-again : tie.Need-loop-again Inv-loop μ-loop
 unfolding _⊕_
 loop-again c =
-    let z = c .before .before .before .before .before .before .before in
+    let z = c .before .before .before .before .before .before in
     let a = z .args in
-    let y = c .before .before .before .before .before .before .loop in (
+    let y = c .before .before .before .before .before .loop in (
       omega arith,
       simp length-set (omega arith),
       exchanged-one (now (a .w)) (y .w) (a .at) (a .one) (a .two) (y .l) (getD (y .w) (a .at + y .l) 0 ⊕ getD (now (a .new)) (y .l) 0) (λ l. getD (now (a .new)) l 0)
@@ -96,19 +93,18 @@ exchange-spec =
     Inv-loop
     μ-loop
     loop-holds
+    shared-slice-read-v
     add-x
     slice-read-x
-    shared-slice-read-x
+    add-y
+    slice-read-y
+    add-z
+    slice-read-z
     add-w
-    slice-read-w
-    add-w-2
     slice-write-w
-    add-w-3
-    slice-read-w-2
-    add-w-4
+    add-w-2
     slice-write-w-2
-    shared-slice-read-w
-    add-w-5
+    add-w-3
     slice-write-w-3
     add-l
     loop-less

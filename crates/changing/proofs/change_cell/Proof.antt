@@ -1,5 +1,5 @@
 -- `changing::change_cell` meets its contract: the diagonal of S is m - 1.
-use mathlib.Core.Path.{_≡_, sym, ap, _∙_}
+use mathlib.Core.Path.{sym, ap, _∙_}
 use Prim.Native.Nat.{ℕ, _-_}
 use Rattle.parity.specs.Equations.{back}
 use borrow.Author.Needs.{needs}

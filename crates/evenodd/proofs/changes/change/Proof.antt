@@ -1,5 +1,4 @@
 -- `evenodd::changes::change` meets its contract: a law of change for each way out, from what the tests on the way there said.
-use mathlib.Core.Path.{_∙_}
 use lib.ListN.{length}
 use native.Mathlib.Omega.{arith}
 use denote.Ref.{now}
