@@ -17,15 +17,15 @@ use borrow.Author.Tests.{eq-eqb, ne-eqb}
 use Rattle.parity.specs.Xor.{_⊕_}
 use Rattle.parity.specs.Shape.{stripeLength}
 use Rattle.parity.specs.Stripe.{byte, lane, Stripe, Valid, brokenRows, brokenDiagonals}
-use Rattle.parity.specs.Presence.{differing}
+use Rattle.parity.specs.Presence.{differing, AgreesBut}
 use Rattle.parity.specs.Change.{depends, SameAmounts}
-use Rattle.parity.proofs.Xor.{⊕-zero, ⊕-cancel, ⊕-lt}
+use Rattle.parity.proofs.Xor.{⊕-self, ⊕-zero, ⊕-cancel, ⊕-lt}
 use Rattle.parity.proofs.Bytes.{each-place}
 use Rattle.parity.proofs.Columns.{same-column, column-same}
 use Rattle.parity.proofs.Stripes.{byte-lt}
 use Rattle.changing.proofs.Changed.{parity-grown}
 use Rattle.parity.proofs.Count.{count-cong, some-cong}
-use Rattle.parity.proofs.Change.{depends-itself, depends-none, by-cell, data-stays, same-data-amounts, amounts-back, amounts-both, valid-amounts, amounts-valid, moved-along}
+use Rattle.parity.proofs.Change.{depends-itself, depends-none, by-cell, data-stays, same-data-amounts, amounts-back, amounts-both, valid-amounts, amounts-valid, moved-along, moved-differs}
 use Rattle.refusals.specs.declared.Refusal.the-variants.{Unmendable}
 use Rattle.refusals.specs.Refusals.{Verdict, pass, refuse, Gives}
 use Rattle.refusals.proofs.Rules.{passes-not, refuse-one, gives-one, gives-instead}
@@ -43,8 +43,8 @@ use Rattle.evenodd.specs.Checks.{rowsOf, diagonalsOf, Checks}
 use Rattle.evenodd.specs.Locates as locates
 use Rattle.evenodd.specs.Locates.{locateRules, OneDiffers, Locates}
 use Rattle.evenodd.specs.Changes.{verdictOf, changeRules, Changes}
-use Rattle.evenodd.specs.EndToEnd.{RestoreGivesBack, ChangeAdds, ChangeAsEncode, ChangeKeepsBroken, ChangeKeepsBlame, ChangeBack, ChangesCommute, ChangeWhileAbsent}
-use Rattle.evenodd.proofs.EndToEnd.{restore-gives-back}
+use Rattle.evenodd.specs.EndToEnd.{RestoreGivesBack, Edited, ChangeAdds, ChangeAsEncode, ChangeKeepsBroken, ChangeKeepsBlame, ChangeBack, ChangesCommute, ChangeAgain, ChangeWhileAbsent}
+use Rattle.evenodd.proofs.EndToEnd.{restore-gives-back, rewrite-leaves}
 use Rattle.evenodd.proofs.Changed.{Fitting, change-given, change-passed}
 
 done-of : (q : Changed) → verdictOf q ≡ pass → q ≡ changed.Done
@@ -172,12 +172,12 @@ module _ (m k b : ℕ) (s v : List ℕ) (ps : Stripe m k b s) (pv : Stripe m k b
   -- a valid stripe near to s has one near to v
   near-too : (other : List ℕ) → Valid m k b other → (w : List ℕ) × Valid m k b w × (differing m k b v w ≡ differing m k b s other)
   unfolding differing
-  near-too other valid = let (w, vw, alike) = moved-along m k b s v other ps pv same valid in (w, vw, count-cong (k + 2) (λ t ht. alike t ht))
+  near-too other valid = let (w, vw, sums) = moved-along m k b s v other ps pv same valid in (w, vw, count-cong (k + 2) (moved-differs m k b s v other w sums))
 
   one-too : (u : ℕ) → OneDiffers m k b s u → OneDiffers m k b v u
   one-too u o =
-      let (w, vw, alike) = moved-along m k b s v (o .other) ps pv same (o .valid) in
-      record { inside = o .inside; other = w; valid = vw; differ = record { at = λ t ht. alike t ht ∙ o .differ .at t ht } }
+      let (w, vw, sums) = moved-along m k b s v (o .other) ps pv same (o .valid) in
+      record { inside = o .inside; other = w; valid = vw; differ = record { at = λ t ht. moved-differs m k b s v (o .other) w sums t ht ∙ o .differ .at t ht } }
 
 -- so the rules of locate give the same of both
 module _ (m k b : ℕ) (s v : List ℕ) (ps : Stripe m k b s) (pv : Stripe m k b v) (same : SameAmounts m k b s v) where
@@ -268,6 +268,47 @@ changes-commute m k b column row column′ row′ cell cell′ s one two both ot
         data-stays (f′ .datum) (w .left) l i t hl hi ht second ∙ data-stays (f .datum) (p .left) l i t hl hi ht first
         ∙ sym (data-stays (f .datum) (w′ .left) l i t hl hi ht first ∙ data-stays (f′ .datum) (p′ .left) l i t hl hi ht second))))
         (amounts-both (amounts-back (amounts-both (p .left .amounts) (w .left .amounts))) (amounts-both (p′ .left .amounts) (w′ .left .amounts)))
+
+-- ---- with a wrong column
+
+pub change-again : ChangeAgain
+unfolding ChangeAgain ChangeAsEncode
+change-again m k b u column row cell v s after left again edited fresh q r valid ps small inside agrees p w p′ edit enc =
+    let (w-done, is) = rewrite-leaves m k b u (f .shape) inside after (moved .0) left (pv .whole) (moved .1) but-u q w in
+    let r-done = done r (fits is) p′ in
+    (w-done, r-done, change-as-encode m k b column row cell left again edited fresh encoded.Done (rw is (moved .1)) (rw r-done at p′) (still is) enc .1)
+  where
+    f : Fitting m k b column row cell s
+    f = change-given m k b column row cell s (p .told)
+
+    pv : Stripe m k b after
+    pv = left-stripe m k b column row cell s after p ps small
+
+    -- the valid stripe that is to what change left what v is to s
+    moved : (w : List ℕ) × Valid m k b w × ((l i t : ℕ) → l < b → i < m - 1 → t < k + 2 → byte m b w l i t ≡ byte m b v l i t ⊕ (byte m b s l i t ⊕ byte m b after l i t))
+    moved = moved-along m k b s after v ps pv (p .left .amounts) valid
+
+    -- it has what is left in every column but u
+    but-u : AgreesBut m k b u after (moved .0)
+    but-u = record {
+      at = λ t ht ne. column-same m b after (moved .0) t (λ l i hl hi.
+          sym (⊕-cancel (byte m b s l i t) (byte m b after l i t))
+          ∙ ap (λ (x : ℕ). x ⊕ (byte m b s l i t ⊕ byte m b after l i t)) (same-column m b s v t (agrees .at t ht ne) l i hl hi)
+          ∙ sym (moved .2 l i t hl hi ht));
+    }
+
+    fits : left ≡ moved .0 → Fitting m k b column row cell left
+    fits is = record { shape = f .shape; whole = ap length is ∙ moved .1 .stripe .whole; datum = f .datum; real = f .real; full = f .full }
+
+    -- and of the data v's cells, but the one
+    still : left ≡ moved .0 → Edited m k b column row cell left edited
+    still is = record {
+      size = edit .size ∙ valid .stripe .whole ∙ sym (ap length is ∙ moved .1 .stripe .whole);
+      new = edit .new;
+      others = λ l i t hl hi ht other. edit .others l i t hl hi ht other ∙ sym (ap (λ (x : List ℕ). byte m b x l i t) is ∙ moved .2 l i t hl hi (omega arith)
+          ∙ ap (λ (x : ℕ). byte m b v l i t ⊕ (byte m b s l i t ⊕ x)) (data-stays (f .datum) (p .left) l i t hl hi ht other)
+          ∙ ap (λ (x : ℕ). byte m b v l i t ⊕ x) (⊕-self (byte m b s l i t)) ∙ ⊕-zero (byte m b v l i t));
+    }
 
 -- ---- with columns absent
 

@@ -148,7 +148,7 @@ restore-gives-back m k b map fresh s lost before after (restored.Refused r) enc 
     (p .told)))
 
 -- rewrite of a column, where a valid stripe v agrees with all others: it passes, and leaves v
-rewrite-leaves : (m k b u : ℕ) → Shape m k b → u < k + 2 → (s v after : List ℕ) → length s ≡ stripeLength m k b → Valid m k b v → AgreesBut m k b u s v → (q : Rewritten) → Rewrites m k b u s after q
+pub rewrite-leaves : (m k b u : ℕ) → Shape m k b → u < k + 2 → (s v after : List ℕ) → length s ≡ stripeLength m k b → Valid m k b v → AgreesBut m k b u s v → (q : Rewritten) → Rewrites m k b u s after q
     → (q ≡ rewritten.Done) × (after ≡ v)
 rewrite-leaves m k b u h hu s v after whole vv a rewritten.Done p = (refl, one-but m k b u h after v (p .left .0) vv (between m k b u s s after v (agrees-self m k b u s) (p .left .1) a))
 rewrite-leaves m k b u h hu s v after whole vv a (rewritten.Refused f) p =

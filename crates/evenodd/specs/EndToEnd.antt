@@ -20,6 +20,8 @@
 --   ChangeKeepsBlame   locate names the column that it named, or none as before, and gives 6 exactly where it did
 --   ChangeBack         changed back to the bytes that it held, the cell gives the stripe back
 --   ChangesCommute     two changes of different cells leave the same in either order
+--   ChangeAgain        of a stripe with one wrong column a cell is changed, that column is rewritten, and the same change made again: this gives what
+--                      encode makes of the data with that cell edited
 --   ChangeWhileAbsent  at most two columns of a valid stripe are absent, whatever stands in their places, and the cell's own is none of them: a change,
 --                      and then restore, give what encode makes of the data with that cell edited
 -- Where exactly two columns of a valid stripe were changed (`TwoChanged`):
@@ -211,6 +213,13 @@ ChangesCommute = (m k b column row column′ row′ : ℕ) (cell cell′ s one t
     → Changes m k b column row cell s one changed.Done → Changes m k b column′ row′ cell′ s two changed.Done
     → Changes m k b column′ row′ cell′ one both r → Changes m k b column row cell two other q
     → (r ≡ changed.Done) × (q ≡ changed.Done) × (both ≡ other)
+
+unfoldable pub ChangeAgain : Type 0
+ChangeAgain = (m k b u column row : ℕ) (cell v s after left again edited fresh : List ℕ) (q : Rewritten) (r : Changed) → Valid m k b v
+    → Stripe m k b s → ((l : ℕ) → getD cell l 0 < 256) → u < k + 2 → AgreesBut m k b u s v
+    → Changes m k b column row cell s after changed.Done → Rewrites m k b u after left q → Changes m k b column row cell left again r
+    → Edited m k b column row cell v edited → Encodes m k b edited fresh encoded.Done
+    → (q ≡ rewritten.Done) × (r ≡ changed.Done) × (again ≡ fresh)
 
 unfoldable pub ChangeWhileAbsent : Type 0
 ChangeWhileAbsent = (m k b column row : ℕ) (map : Map) (cell v s after edited fresh before bench : List ℕ) (r : Restored) → Valid m k b v

@@ -5,7 +5,7 @@
 --   same-data-amounts    stripes with the same data cells, whose equations are broken by the same amounts, are one
 --   amounts-back, amounts-both   the same amounts, the other way round, and through a third stripe
 --   amountH-plus, amountD-plus   the amounts of a sum of two lanes are the sums of their amounts
---   moved-along          where v has the amounts of s, a valid stripe is to v what another is to s
+--   moved-along, moved-differs   where v has the amounts of s, a valid stripe is to v what another is to s; and it differs from v where that does from s
 --   valid-amounts, amounts-valid   valid stripes have the same amounts, and a stripe with those of a valid one is valid
 use mathlib.Core.Path.{_≡_, refl, sym, ap, ap₂, _∙_}
 use mathlib.Core.Logic.{_≢_}
@@ -143,7 +143,7 @@ module _ (m k : ℕ) (a c : Lane) where
       tidy : (p q x y u v : ℕ) → p ⊕ q ⊕ (x ⊕ y ⊕ (u ⊕ v)) ≡ p ⊕ (x ⊕ u) ⊕ (q ⊕ (y ⊕ v))
       tidy p q x y u v = simp xor
 
--- So where v has the amounts of s, a valid stripe is to v what another is to s: the sum of the three. It differs from v where that differs from s.
+-- So where v has the amounts of s, a valid stripe is to v what another is to s: the sum of the three.
 module _ (m k b : ℕ) (s v other : List ℕ) (ps : Stripe m k b s) (pv : Stripe m k b v) (same : SameAmounts m k b s v) (valid : Valid m k b other) where
   three : ℕ → Lane
   three l i t = byte m b other l i t ⊕ (byte m b s l i t ⊕ byte m b v l i t)
@@ -168,20 +168,26 @@ module _ (m k b : ℕ) (s v other : List ℕ) (ps : Stripe m k b s) (pv : Stripe
   unfolding three
   small l i t = ⊕-lt _ _ (byte-lt m k b other (valid .stripe) l i t) (⊕-lt _ _ (byte-lt m k b s ps l i t) (byte-lt m k b v pv l i t))
 
-  tells-apart : (x y o : ℕ) → eqb x (o ⊕ (y ⊕ x)) ≡ eqb y o
-  tells-apart x y o = elim (ℕ-discrete y o) [
-    | yes e ↦ eq-eqb x (o ⊕ (y ⊕ x)) (rw e (simp xor)) ∙ sym (eq-eqb y o e)
-    | no ne ↦ ne-eqb x (o ⊕ (y ⊕ x)) (λ q. ne (by-sum q (simp xor))) ∙ sym (ne-eqb y o ne)
-  ]
-
-  pub moved-along : (w : List ℕ) × Valid m k b w × ((t : ℕ) → t < k + 2 → differs m b v w t ≡ differs m b s other t)
-  unfolding differs three
+  pub moved-along : (w : List ℕ) × Valid m k b w × ((l i t : ℕ) → l < b → i < m - 1 → t < k + 2 → byte m b w l i t ≡ byte m b other l i t ⊕ (byte m b s l i t ⊕ byte m b v l i t))
+  unfolding three
   moved-along = (
     build m k b three,
     record {
       stripe = build-stripe m k b three small;
       lanes = λ l hl. holds-same m k (three l) (lane m b (build m k b three) l) (λ i t hi ht. sym (build-byte m k b three l i t hl hi ht)) (amounts-hold m k (three l) (λ i hi. three-h l i hl hi) (λ i hi. three-d l i hl hi));
     },
-    λ t ht. some-cong (m - 1) (λ i hi. some-cong b (λ l hl.
-        ap not (ap (eqb (byte m b v l i t)) (build-byte m k b three l i t hl hi ht) ∙ tells-apart (byte m b v l i t) (byte m b s l i t) (byte m b other l i t)))),
+    λ l i t hl hi ht. build-byte m k b three l i t hl hi ht,
   )
+
+-- the sum of three stripes differs from the third where the first does from the second
+pub moved-differs : (m k b : ℕ) (s v other w : List ℕ) → ((l i t : ℕ) → l < b → i < m - 1 → t < k + 2 → byte m b w l i t ≡ byte m b other l i t ⊕ (byte m b s l i t ⊕ byte m b v l i t))
+    → (t : ℕ) → t < k + 2 → differs m b v w t ≡ differs m b s other t
+unfolding differs
+moved-differs m k b s v other w sums t ht = some-cong (m - 1) (λ i hi. some-cong b (λ l hl.
+    ap not (ap (eqb (byte m b v l i t)) (sums l i t hl hi ht) ∙ tells-apart (byte m b v l i t) (byte m b s l i t) (byte m b other l i t))))
+  where
+    tells-apart : (x y o : ℕ) → eqb x (o ⊕ (y ⊕ x)) ≡ eqb y o
+    tells-apart x y o = elim (ℕ-discrete y o) [
+      | yes e ↦ eq-eqb x (o ⊕ (y ⊕ x)) (rw e (simp xor)) ∙ sym (eq-eqb y o e)
+      | no ne ↦ ne-eqb x (o ⊕ (y ⊕ x)) (λ q. ne (by-sum q (simp xor))) ∙ sym (ne-eqb y o ne)
+    ]
