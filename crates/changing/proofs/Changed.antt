@@ -26,7 +26,7 @@ use Rattle.parity.specs.Change.{standsInD, depends, CellChanged}
 use Rattle.parity.proofs.Xor.{⊕-self, ⊕-zero, zero-⊕, ⊕-cancel, ⊕-move, xor, by-sum}
 use Rattle.parity.proofs.Sum.{sum-add, sum-one}
 use Rattle.parity.proofs.Cells.{diagonal, S-diagonal, cell-real, cell-below, cell-same}
-use Rattle.parity.proofs.Change.{depends-itself, depends-h, depends-d, depends-none}
+use Rattle.parity.proofs.Change.{depends-itself, depends-h, depends-d, depends-none, depends-other, by-cell}
 use Rattle.cells.specs.Runs.{Put, Exchanged}
 use Rattle.cells.proofs.Parts.{parts-end, by-order}
 use Rattle.lines.specs.declared.Grid.{Grid}
@@ -211,13 +211,9 @@ module _ {m b c : ℕ} (z : Sized m b c) (k t i : ℕ) (s v new : List ℕ) (few
       → ((l r : ℕ) → l < b → r < m - 1 → lane m b v l r (k + 1) ≡ lane m b s l r (k + 1) ⊕ cond (standsInD m t i r) (delta l) 0)
       → (l r x : ℕ) → l < b → r < m - 1 → x < k + 2 → Grown l r x
   columns others itself in-h in-d l r x hl hr hx = elim (decLt x k) [
-    | yes low ↦ elim (ℕ-discrete x t) [
-      | yes e ↦ elim (ℕ-discrete r i) [
-        | yes d ↦ rw (e, d) (itself l hl ∙ sym (⊕-cancel (lane m b s l i t) (getD new l 0)) ∙ with-test i t (sym (depends-itself m k t i ht i ∙ eq-eqb i i refl)))
-        | no ne ↦ rw e (others l r t hl hr ht (λ _. ne) ∙ sym (⊕-zero (lane m b s l r t)) ∙ with-test r t (sym (depends-itself m k t i ht r ∙ ne-eqb r i ne)))
-      ]
-      | no ne ↦ others l r x hl hr low (λ e. absurd (ne e)) ∙ sym (⊕-zero (lane m b s l r x)) ∙ with-test r x (sym (depends-none m k t i ht r x low ne))
-    ]
+    | yes low ↦ by-cell (Grown l r x) x r t i
+        (λ e d. rw (e, d) (itself l hl ∙ sym (⊕-cancel (lane m b s l i t) (getD new l 0)) ∙ with-test i t (sym (depends-itself m k t i ht i ∙ eq-eqb i i refl))))
+        (λ other. others l r x hl hr low other ∙ sym (⊕-zero (lane m b s l r x)) ∙ with-test r x (sym (depends-other m k t i ht r x low other)))
     | no high ↦ elim (ℕ-discrete x k) [
       | yes e ↦ rw e (in-h l r hl hr ∙ with-test r k (sym (depends-h m k t i ht r)))
       | no ne ↦ let e : x ≡ k + 1 = omega (arith, ne) in rw e (in-d l r hl hr ∙ with-test r (k + 1) (sym (depends-d m k t i ht r)))

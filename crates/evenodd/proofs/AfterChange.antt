@@ -9,11 +9,11 @@ use mathlib.Core.Logic.{_≢_, inl, inr}
 use mathlib.Core.Bool.{Bool, true, false, cond, not}
 use mathlib.Core.List.{List, [], _∷_}
 use Prim.Native.Nat.{ℕ, _+_, _-_, _≤_, _<_}
-use native.Mathlib.Decide.{ℕ-discrete, decLt}
+use native.Mathlib.Decide.{decLt}
 use native.Mathlib.Omega.{arith}
 use lib.Dec.{eqb}
 use lib.ListN.{length, getD, List·getD-eq-default}
-use borrow.Author.Tests.{eq-eqb, ne-eqb}
+use borrow.Author.Tests.{eq-eqb}
 use Rattle.parity.specs.Xor.{_⊕_}
 use Rattle.parity.specs.Shape.{stripeLength}
 use Rattle.parity.specs.Stripe.{byte, lane, Stripe, Valid, brokenRows, brokenDiagonals}
@@ -25,7 +25,7 @@ use Rattle.parity.proofs.Columns.{same-column, column-same}
 use Rattle.parity.proofs.Stripes.{byte-lt}
 use Rattle.changing.proofs.Changed.{parity-grown}
 use Rattle.parity.proofs.Count.{count-cong, some-cong}
-use Rattle.parity.proofs.Change.{depends-itself, depends-none, by-cell, data-stays, same-data-amounts, amounts-back, amounts-both, valid-amounts, amounts-valid, moved-along, moved-differs}
+use Rattle.parity.proofs.Change.{depends-itself, depends-other, by-cell, data-stays, same-data-amounts, amounts-back, amounts-both, valid-amounts, amounts-valid, moved-along, moved-differs}
 use Rattle.refusals.specs.declared.Refusal.the-variants.{Unmendable}
 use Rattle.refusals.specs.Refusals.{Verdict, pass, refuse, Gives}
 use Rattle.refusals.proofs.Rules.{passes-not, refuse-one, gives-one, gives-instead}
@@ -71,13 +71,7 @@ module _ (m k b column row : ℕ) (cell s v : List ℕ) (big : 1 < m) (few : k �
       ∙ ap (λ (y : Bool). byte m b s l row column ⊕ cond y (byte m b s l row column ⊕ getD cell l 0) 0) (sym (depends-itself m k column row inside row ∙ eq-eqb row row refl))))
       (λ other.
       others l i t hl hi ht other ∙ sym (⊕-zero (byte m b s l i t))
-      ∙ ap (λ (y : Bool). byte m b s l i t ⊕ cond y (byte m b s l row column ⊕ getD cell l 0) 0) (sym (not-depends i t ht other)))
-    where
-      not-depends : (i t : ℕ) → t < k → (t ≡ column → i ≢ row) → depends m k column row i t ≡ false
-      not-depends i t ht other = elim (ℕ-discrete t column) [
-        | yes e ↦ rw e (depends-itself m k column row inside i ∙ ne-eqb i row (other e))
-        | no ne ↦ depends-none m k column row inside i t ht ne
-      ]
+      ∙ ap (λ (y : Bool). byte m b s l i t ⊕ cond y (byte m b s l row column ⊕ getD cell l 0) 0) (sym (depends-other m k column row inside i t ht other)))
 
   all-grown : (l i t : ℕ) → l < b → i < m - 1 → t < k + 2 → byte m b v l i t ≡ byte m b s l i t ⊕ cond (depends m k column row i t) (byte m b s l row column ⊕ getD cell l 0) 0
   all-grown l i t hl hi ht =

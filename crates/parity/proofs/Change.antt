@@ -1,6 +1,6 @@
 -- What depends on a data cell, column by column, and that data and amounts make a stripe.
 --   depends-itself, depends-h, depends-d   of the cell's own column, of H and of D
---   depends-none         no other data cell depends on it
+--   depends-none, depends-other   no cell of another data column depends on it, and no other data cell
 --   by-cell, data-stays  a cell is the one that was changed, or another; and the other data cells stay
 --   same-data-amounts    stripes with the same data cells, whose equations are broken by the same amounts, are one
 --   amounts-back, amounts-both   the same amounts, the other way round, and through a third stripe
@@ -52,6 +52,13 @@ module _ (m k column row : ℕ) (inside : column < k) where
   pub depends-none : (i t : ℕ) → t < k → t ≢ column → depends m k column row i t ≡ false
   unfolding depends
   depends-none i t h ne = rw (ne-eqb t column ne, ne-eqb t k (λ e. absurd (omega (arith, e))), ne-eqb t (k + 1) (λ e. absurd (omega (arith, e))))
+
+  -- so of the data cells it is that one alone
+  pub depends-other : (i t : ℕ) → t < k → (t ≡ column → i ≢ row) → depends m k column row i t ≡ false
+  depends-other i t h ne = elim (ℕ-discrete t column) [
+    | yes e ↦ rw e (depends-itself i ∙ ne-eqb i row (ne e))
+    | no apart ↦ depends-none i t h apart
+  ]
 
 -- ---- the same data and the same amounts
 
@@ -109,10 +116,7 @@ by-cell P t i column row same other = elim (ℕ-discrete t column) [
 -- all data cells but that one stay
 pub data-stays : {m k b column row : ℕ} {cell s v : List ℕ} → column < k → CellChanged m k b column row cell s v
     → (l i t : ℕ) → l < b → i < m - 1 → t < k → (t ≡ column → i ≢ row) → byte m b v l i t ≡ byte m b s l i t
-data-stays {m} {k} {b} {column} {row} {cell} {s} {v} inside p l i t hl hi ht ne = elim (ℕ-discrete t column) [
-  | yes e ↦ rw e (p .stays l i column hl hi (omega arith) (depends-itself m k column row inside i ∙ ne-eqb i row (ne e)))
-  | no apart ↦ p .stays l i t hl hi (omega arith) (depends-none m k column row inside i t ht apart)
-]
+data-stays {m} {k} {b} {column} {row} {cell} {s} {v} inside p l i t hl hi ht ne = p .stays l i t hl hi (omega arith) (depends-other m k column row inside i t ht ne)
 
 -- ---- the amounts of a sum are the sum of the amounts
 
