@@ -124,8 +124,8 @@ uint8_t oarwillow_rewrite(size_t m, size_t k, size_t b, uint8_t *stripe, size_t 
  * from the start of the stripe, is in column o / ((m - 1) b), and there in row o % ((m - 1) b) / b.
  *
  * A valid stripe becomes what oarwillow_encode would make of the edited data; a blank one is changed as any other, and is blank
- * afterwards only where the new bytes are zeros too. Of a broken one exactly the same equations are broken afterwards, each by the same amount: no damage is covered up,
- * oarwillow_check counts what it counted, and oarwillow_locate names the column that it named.
+ * afterwards only where the new bytes are zeros too. Of a broken one exactly the same equations are broken afterwards, each by the same
+ * amount: no damage is covered up, oarwillow_check counts what it counted, and oarwillow_locate names the column that it named.
  *
  * The stripe must still hold the old bytes: build the new cell, all b bytes of it, in a buffer of your own, never in the stripe. The
  * cell's own column must have been read, or copied to its place after it was restored; other columns may be absent, H and D too, and are
