@@ -31,8 +31,8 @@ use Rattle.refusals.specs.Refusals.{Verdict, pass, refuse, Gives}
 use Rattle.refusals.proofs.Rules.{passes-not, refuse-one, gives-one, gives-instead}
 use Rattle.inputs.specs.Rules.{unmendable, stripeRules}
 use Rattle.inputs.proofs.Stripe.{stripe-passed}
-use Rattle.evenodd.specs.declared.changes.Changed.{Changed}
-use Rattle.evenodd.specs.declared.changes.Changed.the-variants as changed
+use Rattle.evenodd.specs.declared.one_cell.Changed.{Changed}
+use Rattle.evenodd.specs.declared.one_cell.Changed.the-variants as changed
 use Rattle.evenodd.specs.declared.encodes.Encoded.{Encoded}
 use Rattle.evenodd.specs.declared.encodes.Encoded.the-variants as encoded
 use Rattle.evenodd.specs.declared.checks.Checked.{Checked}

@@ -14,7 +14,7 @@ use Rattle.refusals.specs.Refusals.{Verdict, pass, refuse, Gives}
 use Rattle.refusals.proofs.Rules.{gives-next, gives-after, gives-passed, passed-first, equal-of}
 use Rattle.inputs.specs.Rules.{stripeRules}
 use Rattle.inputs.proofs.Stripe.{stripe-passed, stripe-given}
-use Rattle.evenodd.specs.declared.changes.Changed.the-variants.{Refused}
+use Rattle.evenodd.specs.declared.one_cell.Changed.the-variants.{Refused}
 use Rattle.evenodd.specs.Changes.{cellRules, changeRules, Changes}
 
 pub record Fitting (m k b column row : ℕ) (cell s : List ℕ) : Type 0 where

@@ -41,7 +41,7 @@ use Rattle.evenodd.specs.Restores.{Benched, RestoredFrom}
 use Rattle.evenodd.specs.Checks.{Checks}
 use Rattle.evenodd.specs.Locates.{locateRules, verdictOf, columnOf, Locates}
 use Rattle.evenodd.specs.Rewrites.{columnRules, rewriteRules, Rewrites}
-use Rattle.evenodd.specs.declared.changes.Changed.the-variants as changed
+use Rattle.evenodd.specs.declared.one_cell.Changed.the-variants as changed
 use Rattle.evenodd.specs.Changes.{changeRules}
 use Rattle.evenodd.specs.Mends.{Mends}
 use denote.Ref.{RefT, now}

@@ -9,8 +9,8 @@ use mathlib.Core.List.{List, [], _∷_, _++_}
 use Prim.Native.Nat.{ℕ}
 use lib.ListN.{length}
 use Rattle.parity.specs.Change.{CellChanged}
-use Rattle.evenodd.specs.declared.changes.Changed.{Changed}
-use Rattle.evenodd.specs.declared.changes.Changed.the-variants.{Done, Refused}
+use Rattle.evenodd.specs.declared.one_cell.Changed.{Changed}
+use Rattle.evenodd.specs.declared.one_cell.Changed.the-variants.{Done, Refused}
 use Rattle.refusals.specs.Refusals.{Verdict, pass, refuse, Rule, Gives}
 use Rattle.inputs.specs.Rules.{noDataColumn, noSuchRow, cellLengthDiffers, stripeRules}
 

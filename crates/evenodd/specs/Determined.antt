@@ -23,7 +23,7 @@ use Rattle.evenodd.specs.declared.rewrites.Rewritten.the-variants.{Done,
 use Rattle.evenodd.specs.Restores.{Restores}
 use Rattle.evenodd.specs.Locates.{verdictOf, columnOf, Locates}
 use Rattle.evenodd.specs.Rewrites.{Rewrites}
-use Rattle.evenodd.specs.declared.changes.Changed.{Changed}
+use Rattle.evenodd.specs.declared.one_cell.Changed.{Changed}
 use Rattle.evenodd.specs.Changes.{Changes}
 use Rattle.evenodd.specs.Mends.{Mends}
 use denote.Ref.{RefT, now}

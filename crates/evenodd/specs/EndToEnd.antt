@@ -51,8 +51,8 @@ use Rattle.refusals.specs.declared.Refusal.the-variants.{Ambiguous, Contradicte
 use Rattle.refusals.specs.Refusals.{pass}
 use Rattle.maps.specs.Absent.{Stray}
 use Rattle.maps.specs.Truth.{TrueMap}
-use Rattle.evenodd.specs.declared.changes.Changed.{Changed}
-use Rattle.evenodd.specs.declared.changes.Changed.the-variants as changed
+use Rattle.evenodd.specs.declared.one_cell.Changed.{Changed}
+use Rattle.evenodd.specs.declared.one_cell.Changed.the-variants as changed
 use Rattle.evenodd.specs.declared.checks.Checked.{Checked}
 use Rattle.evenodd.specs.declared.checks.Checked.the-variants as checked
 use Rattle.evenodd.specs.declared.encodes.Encoded.{Encoded}

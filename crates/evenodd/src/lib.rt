@@ -1,16 +1,14 @@
 // Stripes kept in the EVENODD code: encode, check, restore, locate, rewrite, change and show. Nothing here asks anything of its caller: bad input is
 // refused by number, and a refused call changes no byte that was lent. Refusals, maps and shapes are handed on from the crates below.
 mod blank;
-mod changes;
 mod checks;
 mod encodes;
 mod locates;
+mod one_cell;
 mod restores;
 mod rewrites;
 mod shows;
 
-pub use changes::Changed;
-pub use changes::change;
 pub use checks::Checked;
 pub use checks::check;
 pub use encodes::Encoded;
@@ -22,6 +20,8 @@ pub use locates::locate;
 pub use maps::Gaps;
 pub use maps::Map;
 pub use maps::Marked;
+pub use one_cell::Changed;
+pub use one_cell::change;
 pub use refusals::Refusal;
 pub use restores::Restored;
 pub use restores::restore;

@@ -9,7 +9,7 @@ use mathlib.Core.Path.{_≡_}
 use mathlib.Core.List.{List}
 use Prim.Native.Nat.{ℕ, _+_, _≤_}
 use Rattle.parity.specs.Shape.{OddPrime, Shape, stripeLength, benchLength}
-use Rattle.evenodd.specs.declared.changes.Changed.{Changed}
+use Rattle.evenodd.specs.declared.one_cell.Changed.{Changed}
 use Rattle.evenodd.specs.declared.checks.Checked.{Checked}
 use Rattle.evenodd.specs.declared.encodes.Encoded.{Encoded}
 use Rattle.maps.specs.declared.Gaps.{Gaps}

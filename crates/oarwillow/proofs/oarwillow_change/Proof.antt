@@ -1,6 +1,6 @@
 -- `oarwillow::oarwillow_change` meets its contract: the answer is change's, and each arm returns its number.
 use mathlib.Core.Path.{refl}
-use Rattle.evenodd.specs.declared.changes.Changed.the-variants.{Done, Refused}
+use Rattle.evenodd.specs.declared.one_cell.Changed.the-variants.{Done, Refused}
 use borrow.Author.Needs.{needs}
 use Rattle.oarwillow.proofs.oarwillow_change.Statement.{statement}
 use Rattle.oarwillow.proofs.oarwillow_change.Tie as tie

@@ -1,4 +1,4 @@
--- `evenodd::changes::change` meets its contract: a law of change for each way out, from what the tests on the way there said.
+-- `evenodd::one_cell::change` meets its contract: a law of change for each way out, from what the tests on the way there said.
 use lib.ListN.{length}
 use native.Mathlib.Omega.{arith}
 use denote.Ref.{now}
@@ -9,8 +9,8 @@ use Rattle.refusals.proofs.Rules.{gives-first, gives-next}
 use Rattle.evenodd.specs.Changes.{cellRules}
 use Rattle.evenodd.proofs.Laid.{laid}
 use Rattle.evenodd.proofs.Changed.{change-refused, change-told, change-passed}
-use Rattle.evenodd.proofs.changes.change.Statement.{statement}
-use Rattle.evenodd.proofs.changes.change.Tie as tie
+use Rattle.evenodd.proofs.one_cell.change.Statement.{statement}
+use Rattle.evenodd.proofs.one_cell.change.Tie as tie
 
 good : (c : tie.After-known-told) → let a = c .before .before .before .before .before .before .args in
     Numbers (a .m) (a .k) (a .b) (length (now (a .stripe))) (c .before .judged .given .0 .0)
