@@ -2,4 +2,5 @@
 pub mod Shape
 pub mod Stripe
 pub mod Tests
+pub mod CellLists
 pub mod Determined

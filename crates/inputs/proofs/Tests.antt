@@ -1,6 +1,7 @@
 -- Laws of the tests that the calls share.
 --   passed-on, told-refused  a refusal is that of every list of rules that begins with the tests
 --   told-passed              a good shape passes them
+--   good-column              with the bytes of a column
 --   Numbers, stripe-good     what is known where the numbers and the stripe's length are right
 --   Lent, lent-good          and where the bench's length and the map are right too: it is true, and has no strays
 --   lent-given, lent-passed  their rules pass exactly then
@@ -44,7 +45,7 @@ pub told-passed : (rules : List Rule) (j : Judged) {c : ℕ} → Gives rules (ve
 told-passed rules (Good d) h e = h
 told-passed rules (Refused f) h e = absurd (let z : _≡_ {A = ℕ} 0 1 = cc in omega arith)
 
-good-column : (m b : ℕ) (j : Judged) {c : ℕ} → goodColumn m b j → j ≡ Good c → c ≡ columnLength m b
+pub good-column : (m b : ℕ) (j : Judged) {c : ℕ} → goodColumn m b j → j ≡ Good c → c ≡ columnLength m b
 good-column m b (Good d) {c} h e = let q : c ≡ d = cc in q ∙ h
 good-column m b (Refused f) h e = absurd (let z : _≡_ {A = ℕ} 0 1 = cc in omega arith)
 

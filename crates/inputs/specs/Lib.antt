@@ -2,4 +2,5 @@
 pub mod Rules
 pub mod Shapes
 pub mod Tests
+pub mod Lists
 pub mod Determined

@@ -13,6 +13,8 @@
 --   wrongK m k                    12: k is 0 or above m
 --   wrongB b                      13: b is 0 or above 4,096
 --   cellLengthDiffers b n         14: a cell is not n bytes
+--   wrongLists b n rows cells     15: of lists of n columns, so many rows and so many new bytes, the first two differ in length or hold more than 256 items, or the
+--                                 bytes are not b for each item
 -- 17, and the 7 of marking a place, stand with the map (`lyingMap`, `noSuchPlace` and `placeRules`, in crates/maps/specs/Rules.antt), 8 with the shelf image's
 -- format, and 10 with the program. The orders:
 --   shapeRules     1, 12, 13: asked first by every call that is given a shape, and by the readers of an image of its header. They let exactly
@@ -23,11 +25,13 @@
 --   gapRules       1, 12, 13, 2, 3, 17, 9, 4
 --   restoreRules   1, 12, 13, 2, 3, 17, 9, 4, 5
 --   showRules      1, 12, 13, 2, 3, 17, 9, 7, 4
+--   listRules      1, 12, 13, 2, 15: what lists of cells are asked as a whole
+--   itemRules      7, 11: what each of their items is asked
 -- Those of locate, rewrite and change, which begin with `stripeRules`, stand with their promises, and those of an image's readers with the format.
 use mathlib.Core.Path.{_≡_}
 use mathlib.Core.Logic.{_≢_, _⊎_}
 use mathlib.Core.List.{List, [], _∷_, _++_}
-use Prim.Native.Nat.{ℕ, _+_, _-_, _≤_, _<_}
+use Prim.Native.Nat.{ℕ, _+_, _-_, _*_, _≤_, _<_}
 use lib.ListN.{length}
 use Rattle.parity.specs.Shape.{OddPrime, stripeLength, benchLength}
 use Rattle.parity.specs.Stripe.{Valid}
@@ -80,6 +84,9 @@ wrongB b = record { condition = (b ≡ 0) ⊎ (4096 < b); refusal = refusal.Wron
 abbrev pub cellLengthDiffers : ℕ → ℕ → Rule
 cellLengthDiffers b n = record { condition = n ≢ b; refusal = refusal.CellLength }
 
+abbrev pub wrongLists : ℕ → ℕ → ℕ → ℕ → Rule
+wrongLists b n rows cells = record { condition = (rows ≢ n) ⊎ (256 < n) ⊎ (cells ≢ n * b); refusal = refusal.WrongLists }
+
 -- ---- the orders
 
 abbrev pub shapeRules : ℕ → ℕ → ℕ → List Rule
@@ -102,3 +109,9 @@ restoreRules m k b map s w = gapRules m k b map (length s) w ++ (contradicted m 
 
 abbrev pub showRules : ℕ → ℕ → ℕ → Map → ℕ → ℕ → ℕ → List Rule
 showRules m k b map n w column = lentRules m k b map n w ++ (noSuchColumn k column ∷ tooManyAbsent k map ∷ [])
+
+abbrev pub listRules : ℕ → ℕ → ℕ → ℕ → ℕ → ℕ → ℕ → List Rule
+listRules m k b n columns rows cells = stripeRules m k b n ++ (wrongLists b columns rows cells ∷ [])
+
+abbrev pub itemRules : ℕ → ℕ → ℕ → ℕ → List Rule
+itemRules m k column row = noDataColumn k column ∷ noSuchRow m row ∷ []

@@ -23,3 +23,4 @@ pub mod Numbers
 pub mod Fits
 pub mod Suspects
 pub mod Change
+pub mod InOrder

@@ -6,12 +6,18 @@
 --   CellChanged m k b column row cell s v
 --                                v is s with that cell changed to `cell`: it holds these bytes, every equation is broken by the same amount as before, and
 --                                every cell that does not depend on it is as it was
+-- And what it is to change several, one after another. Item n of the lists is the cell in row n of `rows` of column n of `columns`; its new bytes are b of
+-- `cells`, where those of all items stand end to end.
+--   newCell b cells n            the new bytes of item n
+--   InOrder step n s v           the steps 0 to n - 1 lead from s to v, one after another
+--   CellsChanged m k b columns rows cells n s v
+--                                v is s with the first n items changed in list order
 use mathlib.Core.Path.{_≡_}
 use mathlib.Core.Bool.{Bool, false, _&&_, _||_}
 use mathlib.Core.List.{List}
-use Prim.Native.Nat.{ℕ, _+_, _-_, _<_}
+use Prim.Native.Nat.{ℕ, zero, suc, _+_, _-_, _*_, _<_}
 use lib.Dec.{eqb}
-use lib.ListN.{length, getD}
+use lib.ListN.{length, getD, take, drop}
 use Rattle.parity.specs.Equations.{back, amountH, amountD}
 use Rattle.parity.specs.Stripe.{byte, lane}
 
@@ -32,3 +38,13 @@ pub record CellChanged (m k b column row : ℕ) (cell s v : List ℕ) : Type 0 w
   pub new : (l : ℕ) → l < b → byte m b v l row column ≡ getD cell l 0
   pub amounts : SameAmounts m k b s v
   pub stays : (l i t : ℕ) → l < b → i < m - 1 → t < k + 2 → depends m k column row i t ≡ false → byte m b v l i t ≡ byte m b s l i t
+
+abbrev pub newCell : ℕ → List ℕ → ℕ → List ℕ
+newCell b cells n = take b (drop (n * b) cells)
+
+unfoldable pub InOrder : (ℕ → List ℕ → List ℕ → Type 0) → ℕ → List ℕ → List ℕ → Type 0
+InOrder step zero s v = v ≡ s
+InOrder step (suc n) s v = (w : List ℕ) × InOrder step n s w × step n w v
+
+abbrev pub CellsChanged : ℕ → ℕ → ℕ → List ℕ → List ℕ → List ℕ → ℕ → List ℕ → List ℕ → Type 0
+CellsChanged m k b columns rows cells = InOrder (λ n. CellChanged m k b (getD columns n 0) (getD rows n 0) (newCell b cells n))

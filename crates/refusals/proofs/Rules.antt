@@ -7,14 +7,16 @@
 --   gives-instead               of two lists in a row another stands for the second
 --   never-number                a number that no rule brings whose condition can hold is not given
 --   gives-passed, gives-rest    two lists in a row pass: each does; the first passes: the second gives the verdict of both
+--   first-not, first-one        of items that each pass none is the first that is refused; and there is one first, refused with one refusal
+--   each-instead, first-instead   items are asked other rules that give the same verdicts
 use mathlib.Core.Path.{_≡_, refl, sym, ap, _∙_}
 use mathlib.Core.Logic.{_≢_, _⊎_, inl, inr, by-cases}
 use mathlib.Core.List.{List, [], _∷_, _++_}
 use Prim.Native.Nat.{ℕ, _<_}
-use native.Mathlib.Decide.{ℕ-discrete}
+use native.Mathlib.Decide.{ℕ-discrete, decLt}
 use native.Mathlib.Omega.{arith}
 use Rattle.refusals.specs.declared.Refusal.{Refusal}
-use Rattle.refusals.specs.Refusals.{numberOf, Verdict, pass, refuse, answerNumber, Rule, Gives}
+use Rattle.refusals.specs.Refusals.{numberOf, Verdict, pass, refuse, answerNumber, Rule, Gives, EachPasses, FirstRefused}
 
 pub passes-not : (f : Refusal) → pass ≡ refuse f → ⊥
 passes-not f e = let z : _≡_ {A = ℕ} 0 1 = cc in omega arith
@@ -80,3 +82,28 @@ pub never-number : (n : ℕ) (rules : List Rule) (v : Verdict) → 0 < n → Nev
 never-number n [] v some never g e = let z : 0 ≡ n = sym (ap answerNumber g) ∙ e in omega arith
 never-number n (r ∷ rules) v some never (inl p) e = never .0 (sym (ap answerNumber (p .1)) ∙ e) (p .0)
 never-number n (r ∷ rules) v some never (inr p) e = never-number n rules v some (never .1) (p .1) e
+
+-- ---- items
+
+module _ (rules : ℕ → List Rule) (n : ℕ) where
+  pub first-not : {item : ℕ} {f : Refusal} → EachPasses rules n → FirstRefused rules n item f → ⊥
+  first-not {item} {f} each first = passes-not f (gives-one (rules item) _ _ (each item (first .inside)) (first .refused))
+
+  pub first-one : {item other : ℕ} {f g : Refusal} → FirstRefused rules n item f → FirstRefused rules n other g → (item ≡ other) × (f ≡ g)
+  first-one {item} {other} {f} {g} x y = (same, refuse-one f g (gives-one (rules item) _ _ (x .refused) (rw same (y .refused))))
+    where
+      same : item ≡ other
+      same = elim (decLt item other) [
+        | yes l ↦ absurd (passes-not f (gives-one (rules item) _ _ (y .before item l) (x .refused)))
+        | no l ↦ elim (decLt other item) [
+          | yes h ↦ absurd (passes-not g (gives-one (rules other) _ _ (x .before other h) (y .refused)))
+          | no h ↦ omega arith
+        ]
+      ]
+
+module _ (rules others : ℕ → List Rule) (n : ℕ) (same : (i : ℕ) → i < n → (v : Verdict) → Gives (rules i) v → Gives (others i) v) where
+  pub each-instead : EachPasses rules n → EachPasses others n
+  each-instead each i h = same i h pass (each i h)
+
+  pub first-instead : {item : ℕ} {f : Refusal} → FirstRefused rules n item f → FirstRefused others n item f
+  first-instead {item} {f} x = record { inside = x .inside; before = λ i h. same i (omega (arith, x .inside)) pass (x .before i h); refused = same item (x .inside) (refuse f) (x .refused) }

@@ -18,11 +18,12 @@ pub enum Refusal {
     WrongK,
     WrongB,
     CellLength,
+    WrongLists,
     LyingMap,
 }
 
 impl Refusal {
-    // The refusal's number: 1 to 14 or 17, and no other.
+    // The refusal's number: 1 to 15 or 17, and no other.
     pub fn number(self) -> u8
         ensures { λ r. ⌜ r ≡ numberOf self ⌝ }
     {
@@ -41,6 +42,7 @@ impl Refusal {
             Refusal::WrongK => 12,
             Refusal::WrongB => 13,
             Refusal::CellLength => 14,
+            Refusal::WrongLists => 15,
             Refusal::LyingMap => 17,
         }
     }

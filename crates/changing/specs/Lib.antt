@@ -1,0 +1,2 @@
+-- What the loops that change cells are given.
+pub mod Items
