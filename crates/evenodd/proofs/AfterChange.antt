@@ -2,7 +2,7 @@
 -- what they become.
 --   done            where all that change asks is so, it is done
 --   all-grown       what the cells get added, and left-stripe: so what is left is bytes
---   same-counts     the same amounts, the same counts
+--   same-counts, same-broken, same-checks   the same amounts, the same counts
 --   near-too, one-too, same-rules   what is near to one stripe has its like near to another that has the same amounts
 use mathlib.Core.Path.{_≡_, refl, sym, ap, ap₂, _∙_}
 use mathlib.Core.Logic.{_≢_, inl, inr}
@@ -15,7 +15,7 @@ use lib.Dec.{eqb}
 use lib.ListN.{length, getD, List·getD-eq-default}
 use borrow.Author.Tests.{eq-eqb}
 use Rattle.parity.specs.Xor.{_⊕_}
-use Rattle.parity.specs.Shape.{stripeLength}
+use Rattle.parity.specs.Shape.{Shape, stripeLength}
 use Rattle.parity.specs.Stripe.{byte, lane, Stripe, Valid, brokenRows, brokenDiagonals}
 use Rattle.parity.specs.Presence.{differing, AgreesBut}
 use Rattle.parity.specs.Change.{depends, SameAmounts}
@@ -43,16 +43,16 @@ use Rattle.evenodd.specs.Checks.{rowsOf, diagonalsOf, Checks}
 use Rattle.evenodd.specs.Locates as locates
 use Rattle.evenodd.specs.Locates.{locateRules, OneDiffers, Locates}
 use Rattle.evenodd.specs.Changes.{verdictOf, changeRules, Changes}
-use Rattle.evenodd.specs.EndToEnd.{RestoreGivesBack, Edited, ChangeAdds, ChangeAsEncode, ChangeKeepsBroken, ChangeKeepsBlame, ChangeBack, ChangesCommute, ChangeAgain, ChangeWhileAbsent}
+use Rattle.evenodd.specs.EndToEnd.{RestoreGivesBack, Edited, SameBroken, ChangeAdds, ChangeAsEncode, ChangeKeepsBroken, ChangeKeepsBlame, ChangeBack, ChangesCommute, ChangeAgain, ChangeWhileAbsent}
 use Rattle.evenodd.proofs.EndToEnd.{restore-gives-back, rewrite-leaves}
 use Rattle.evenodd.proofs.Changed.{Fitting, change-given, change-passed}
 
-done-of : (q : Changed) → verdictOf q ≡ pass → q ≡ changed.Done
+pub done-of : (q : Changed) → verdictOf q ≡ pass → q ≡ changed.Done
 done-of changed.Done e = refl
 done-of (changed.Refused f) e = absurd (passes-not f (sym e))
 
 -- where all that change asks is so, it is done
-done : {m k b column row : ℕ} {cell s after : List ℕ} (q : Changed) → Fitting m k b column row cell s → Changes m k b column row cell s after q → q ≡ changed.Done
+pub done : {m k b column row : ℕ} {cell s after : List ℕ} (q : Changed) → Fitting m k b column row cell s → Changes m k b column row cell s after q → q ≡ changed.Done
 done {m} {k} {b} {column} {row} {cell} {s} q f p = done-of q (gives-one (changeRules m k b column row cell s) _ _ (p .told) (change-passed m k b column row cell s f))
 
 -- ---- what the cells get added
@@ -85,7 +85,7 @@ change-adds m k b column row cell s after p =
     all-grown m k b column row cell s after (f .shape .value .prime .big) (f .shape .few) (f .datum) (f .real) (p .left .new) (data-stays (f .datum) (p .left)) (p .left .amounts)
 
 -- what is left is bytes where the stripe and the new cell were
-left-stripe : (m k b column row : ℕ) (cell s after : List ℕ) → Changes m k b column row cell s after changed.Done → Stripe m k b s → ((l : ℕ) → getD cell l 0 < 256) → Stripe m k b after
+pub left-stripe : (m k b column row : ℕ) (cell s after : List ℕ) → Changes m k b column row cell s after changed.Done → Stripe m k b s → ((l : ℕ) → getD cell l 0 < 256) → Stripe m k b after
 unfolding ChangeAdds
 left-stripe m k b column row cell s after p st small = record {
   whole = whole;
@@ -143,18 +143,26 @@ counts m k b s r passed p =
     let c = p .counted (gives-one (stripeRules m k b (length s)) _ _ (p .told) passed) in
     (c .rows, c .diagonals)
 
+-- so of stripes of one shape with the same amounts the same equations are broken, and check counts the same
+module _ (m k b : ℕ) (s v : List ℕ) (shape : Shape m k b) (ps : length s ≡ stripeLength m k b) (pv : length v ≡ stripeLength m k b) (same : SameAmounts m k b s v) where
+  pub same-broken : SameBroken m k b s v
+  same-broken = record {
+    rows = λ l i hl hi. (λ z. same .rows l i hl hi ∙ z, λ z. sym (same .rows l i hl hi) ∙ z);
+    diagonals = λ l i hl hi. (λ z. same .diagonals l i hl hi ∙ z, λ z. sym (same .diagonals l i hl hi) ∙ z);
+  }
+
+  pub same-checks : (r q : Checked) → Checks m k b s r → Checks m k b v q → (rowsOf r ≡ rowsOf q) × (diagonalsOf r ≡ diagonalsOf q)
+  same-checks r q cr cq =
+      let x = counts m k b s r (stripe-passed m k b (length s) shape ps) cr in
+      let y = counts m k b v q (stripe-passed m k b (length v) shape pv) cq in
+      let e = same-counts m k b s v same in
+      (x .0 ∙ e .0 ∙ sym (y .0), x .1 ∙ e .1 ∙ sym (y .1))
+
 pub change-keeps-broken : ChangeKeepsBroken
 unfolding ChangeKeepsBroken
 change-keeps-broken m k b column row cell s after p = (
-  record {
-    rows = λ l i hl hi. (λ z. p .left .amounts .rows l i hl hi ∙ z, λ z. sym (p .left .amounts .rows l i hl hi) ∙ z);
-    diagonals = λ l i hl hi. (λ z. p .left .amounts .diagonals l i hl hi ∙ z, λ z. sym (p .left .amounts .diagonals l i hl hi) ∙ z);
-  },
-  λ r q cr cq.
-      let x = counts m k b s r (stripe-passed m k b (length s) (f .shape) (f .whole)) cr in
-      let y = counts m k b after q (stripe-passed m k b (length after) (f .shape) (p .left .size ∙ f .whole)) cq in
-      let e = same-counts m k b s after (p .left .amounts) in
-      (x .0 ∙ e .0 ∙ sym (y .0), x .1 ∙ e .1 ∙ sym (y .1)),
+  same-broken m k b s after (f .shape) (f .whole) (p .left .size ∙ f .whole) (p .left .amounts),
+  same-checks m k b s after (f .shape) (f .whole) (p .left .size ∙ f .whole) (p .left .amounts),
   λ ps small. (λ v. amounts-valid v (p .left .amounts) (left-stripe m k b column row cell s after p ps small), λ v. amounts-valid v (amounts-back (p .left .amounts)) ps),
 )
   where

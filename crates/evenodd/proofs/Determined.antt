@@ -12,10 +12,11 @@ use Rattle.parity.specs.Stripe.{byte, Valid}
 use Rattle.parity.specs.Presence.{differs, absences, Agrees, AgreesBut}
 use Rattle.parity.proofs.Columns.{same-column}
 use Rattle.parity.proofs.Change.{by-cell, data-stays, same-data-amounts, amounts-back, amounts-both}
+use Rattle.parity.proofs.InOrder.{order-one}
 use Rattle.parity.proofs.Stripes.{stripe-determined}
 use Rattle.parity.proofs.Theorems.{frame, served, at-most-one, absent-unread, one-wrong}
-use Rattle.inputs.specs.Rules.{tooManyAbsent, contradicted, unmendable, stripeRules, lentRules, gapRules, restoreRules, showRules}
-use Rattle.refusals.proofs.Rules.{passes-not, refuse-one, gives-one, passed-first, gives-passed, gives-instead}
+use Rattle.inputs.specs.Rules.{tooManyAbsent, contradicted, unmendable, stripeRules, lentRules, gapRules, restoreRules, showRules, listRules}
+use Rattle.refusals.proofs.Rules.{passes-not, refuse-one, gives-one, passed-first, gives-passed, gives-instead, first-not, first-one}
 use Rattle.inputs.proofs.Stripe.{stripe-given}
 use Rattle.evenodd.specs.declared.checks.Checked.{Checked}
 use Rattle.evenodd.specs.declared.checks.Checked.the-variants as checked
@@ -24,7 +25,7 @@ use Rattle.evenodd.proofs.Located.{not-one}
 use Rattle.evenodd.proofs.Rewritten.{between, agrees-self, agrees-back, one-but}
 use Rattle.evenodd.proofs.Changed.{change-given}
 use Rattle.evenodd.proofs.Shown.{in-stripe, in-bench}
-use Rattle.evenodd.specs.Determined.{EncodesOne, ChecksOne, RestoresOne, RestoresUnread, LocatesOne, RewritesOne, leftOf, RewritesUnread, ChangesOne, MendsOne, PlacesOne, SamePart, ShowsOne, PlacesUnread, ShowsUnread}
+use Rattle.evenodd.specs.Determined.{EncodesOne, ChecksOne, RestoresOne, RestoresUnread, LocatesOne, RewritesOne, leftOf, RewritesUnread, ChangesOne, ChangesAllOne, MendsOne, PlacesOne, SamePart, ShowsOne, PlacesUnread, ShowsUnread}
 use lib.ListN.{length}
 use Rattle.parity.specs.Theorems.{AtMostOne, AbsentUnread, OneWrong}
 use Rattle.parity.proofs.Bytes.{stripe-ext}
@@ -43,6 +44,9 @@ use Rattle.evenodd.specs.Locates.{locateRules, verdictOf, columnOf, Loca
 use Rattle.evenodd.specs.Rewrites.{columnRules, rewriteRules, Rewrites}
 use Rattle.evenodd.specs.declared.one_cell.Changed.the-variants as changed
 use Rattle.evenodd.specs.Changes.{changeRules}
+use Rattle.evenodd.specs.declared.many_cells.ChangedAll.{ChangedAll}
+use Rattle.evenodd.specs.declared.many_cells.ChangedAll.the-variants as changedAll
+use Rattle.evenodd.specs.ChangesAll.{rulesOf, ItemChanged, ChangesAll}
 use Rattle.evenodd.specs.Mends.{Mends}
 use denote.Ref.{RefT, now}
 use Rattle.evenodd.specs.declared.shows.Place.{Place}
@@ -223,6 +227,33 @@ changes-one m k b column row cell s x y changed.Done (changed.Refused g) p q = a
 changes-one m k b column row cell s x y (changed.Refused f) changed.Done p q = absurd (passes-not f (gives-one (changeRules m k b column row cell s) _ _ (q .told) (p .told)))
 changes-one m k b column row cell s x y (changed.Refused f) (changed.Refused g) p q =
     (ap changed.Refused (refuse-one f g (gives-one (changeRules m k b column row cell s) _ _ (p .told) (q .told))), p .left ∙ sym (q .left))
+
+-- ---- changes
+
+-- the lists as a whole are given one verdict, the items have one first that is refused, and each item leaves one stripe
+pub changes-all-one : ChangesAllOne
+unfolding ChangesAllOne ChangesOne
+changes-all-one m k b columns rows cells s x y r q p h = go r q p h
+  where
+    answered : (v w : Verdict) → Gives (listRules m k b (length s) (length columns) (length rows) (length cells)) v
+        → Gives (listRules m k b (length s) (length columns) (length rows) (length cells)) w → v ≡ w
+    answered v w = gives-one (listRules m k b (length s) (length columns) (length rows) (length cells)) v w
+
+    go : (r q : ChangedAll) → ChangesAll m k b columns rows cells s x r → ChangesAll m k b columns rows cells s y q → (r ≡ q) × (x ≡ y)
+    go changedAll.Done changedAll.Done p h = (
+      refl,
+      order-one (ItemChanged m k b columns rows cells) (length columns) (λ i hi w u v a c. changes-one m k b _ _ _ w u v changed.Done changed.Done a c .1) s x y (p .left) (h .left),
+    )
+    go changedAll.Done (changedAll.Refused g) p h = absurd (passes-not g (answered _ _ (p .told .0) (h .told)))
+    go changedAll.Done (changedAll.ItemRefused j g) p h = absurd (first-not (rulesOf m k b columns rows cells s) (length columns) (p .told .1) (h .told .1))
+    go (changedAll.Refused f) changedAll.Done p h = absurd (passes-not f (answered _ _ (h .told .0) (p .told)))
+    go (changedAll.Refused f) (changedAll.Refused g) p h = (ap changedAll.Refused (refuse-one f g (answered _ _ (p .told) (h .told))), p .left ∙ sym (h .left))
+    go (changedAll.Refused f) (changedAll.ItemRefused j g) p h = absurd (passes-not f (answered _ _ (h .told .0) (p .told)))
+    go (changedAll.ItemRefused i f) changedAll.Done p h = absurd (first-not (rulesOf m k b columns rows cells s) (length columns) (h .told .1) (p .told .1))
+    go (changedAll.ItemRefused i f) (changedAll.Refused g) p h = absurd (passes-not g (answered _ _ (p .told .0) (h .told)))
+    go (changedAll.ItemRefused i f) (changedAll.ItemRefused j g) p h =
+        let (item, refusal) = first-one (rulesOf m k b columns rows cells s) (length columns) (p .told .1) (h .told .1) in
+        (ap₂ changedAll.ItemRefused item refusal, p .left ∙ sym (h .left))
 
 -- ---- what mend promised
 

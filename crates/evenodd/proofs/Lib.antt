@@ -6,8 +6,10 @@ pub mod Restored
 pub mod Located
 pub mod Rewritten
 pub mod Changed
+pub mod ManyChanged
 pub mod Shown
 pub mod Determined
 pub mod EndToEnd
 pub mod TwoWrong
 pub mod AfterChange
+pub mod AfterMany

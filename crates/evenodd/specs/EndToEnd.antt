@@ -1,5 +1,5 @@
 -- What follows from the promises alone, from end to end. Each statement is a type, which proofs/EndToEnd, or where two columns were changed proofs/TwoWrong, or
--- where a cell was changed proofs/AfterChange, inhabits.
+-- where a cell was changed proofs/AfterChange, or several proofs/AfterMany, inhabits.
 --   OneOrNothing       if exactly one valid stripe agrees with the columns that are present, restore gives it: stripe and bench together are that one.
 --                      Otherwise it gives nothing, and says why: 4 exactly when two different ones agree, 5 exactly when none does
 --   RestoreGivesBack   encode, lose at most two columns, whatever stands in their places: restore gives them back
@@ -24,6 +24,15 @@
 --                      encode makes of the data with that cell edited
 --   ChangeWhileAbsent  at most two columns of a valid stripe are absent, whatever stands in their places, and the cell's own is none of them: a change,
 --                      and then restore, give what encode makes of the data with that cell edited
+-- Of changes, which is given lists of cells:
+--   ManyAsOneByOne     where it is done, calls of change with the items one at a time in list order, whatever they answer, leave what it leaves
+--   ItemAsChange       where it refuses an item, change with that item alone is refused so, and with an item before it is done
+--   SevenOrEleven      where it refuses an item, that is one of the list, and it is refused with 7 for its column, or else with 11 for its row
+--   NothingToChange    an empty list with no bytes passes and changes nothing, and with bytes it is refused with 15
+-- and where it is done:
+--   LastValueStands    a cell of the data holds the bytes of the last item that names it, and one that no item names is as it was
+--   ManyAsEncode       a valid stripe becomes what encode makes of its data with these cells edited in list order
+--   ManyKeepBroken     every equation is broken by the amount by which it was; so check counts the same, and a stripe is valid exactly when it was
 -- Where exactly two columns of a valid stripe were changed (`TwoChanged`):
 --   SixOrAThird        check says neither intact nor blank and is not refused, and locate gives 6 or names a column that is neither of the two
 --   AnyThirdNamed      it can be any third that is named, whatever the stripe and whichever the two
@@ -36,23 +45,26 @@ use mathlib.Core.Path.{_≡_}
 use mathlib.Core.Logic.{_≢_, _↔_, _⊎_}
 use mathlib.Core.Bool.{Bool, true, false, not, cond}
 use mathlib.Core.List.{List, [], _∷_}
-use Prim.Native.Nat.{ℕ, _+_, _-_, _≤_, _<_}
+use Prim.Native.Nat.{ℕ, _+_, _-_, _*_, _≤_, _<_}
 use lib.ListN.{length, getD}
 use Rattle.parity.specs.Shape.{member, Shape, benchLength}
 use Rattle.parity.specs.Xor.{_⊕_}
 use Rattle.parity.specs.Equations.{amountH, amountD}
 use Rattle.parity.specs.Stripe.{byte, lane, Stripe, Valid, Blank}
 use Rattle.parity.specs.Presence.{present, absences, differing, DifferIn, Agrees, AgreesBut}
-use Rattle.parity.specs.Change.{depends}
+use Rattle.parity.specs.Change.{depends, SameAmounts, newCell, InOrder}
 use Rattle.parity.specs.Theorems.{TwoChanged}
 use Rattle.maps.specs.declared.Map.{Map}
 use Rattle.refusals.specs.declared.Refusal.{Refusal}
-use Rattle.refusals.specs.declared.Refusal.the-variants.{Ambiguous, Contradicted, Unmendable}
-use Rattle.refusals.specs.Refusals.{pass}
+use Rattle.refusals.specs.declared.Refusal.the-variants.{Ambiguous, Contradicted, Unmendable, NoSuchColumn, NoSuchRow, WrongLists}
+use Rattle.refusals.specs.Refusals.{pass, Gives}
+use Rattle.inputs.specs.Rules.{stripeRules}
 use Rattle.maps.specs.Absent.{Stray}
 use Rattle.maps.specs.Truth.{TrueMap}
 use Rattle.evenodd.specs.declared.one_cell.Changed.{Changed}
 use Rattle.evenodd.specs.declared.one_cell.Changed.the-variants as changed
+use Rattle.evenodd.specs.declared.many_cells.ChangedAll.{ChangedAll}
+use Rattle.evenodd.specs.declared.many_cells.ChangedAll.the-variants as changedAll
 use Rattle.evenodd.specs.declared.checks.Checked.{Checked}
 use Rattle.evenodd.specs.declared.checks.Checked.the-variants as checked
 use Rattle.evenodd.specs.declared.encodes.Encoded.{Encoded}
@@ -66,6 +78,7 @@ use Rattle.evenodd.specs.declared.rewrites.Rewritten.the-variants as rew
 use Rattle.evenodd.specs.Encodes.{Encodes}
 use Rattle.evenodd.specs.Checks.{rowsOf, diagonalsOf, Checks}
 use Rattle.evenodd.specs.Changes.{Changes}
+use Rattle.evenodd.specs.ChangesAll.{ChangesAll}
 use Rattle.evenodd.specs.Restores.{verdictOf, countOf, firstOf, secondOf, Benched, Restores}
 use Rattle.evenodd.specs.Locates.{Locates}
 use Rattle.evenodd.specs.Rewrites.{Rewrites}
@@ -227,6 +240,46 @@ ChangeWhileAbsent = (m k b column row : ℕ) (map : Map) (cell v s after edited 
     → Edited m k b column row cell v edited → Encodes m k b edited fresh encoded.Done
     → length before ≡ benchLength m b → TrueMap map → (Stray k (map .places) → ⊥) → absences k (map .places) ≤ 2
     → Restores m k b map after before bench r → GivenBack m b fresh before bench r
+
+-- calls of change with the items 0 to n - 1, one after another, lead from s to v; what they answer is left open
+abbrev pub CalledInOrder : ℕ → ℕ → ℕ → List ℕ → List ℕ → List ℕ → ℕ → List ℕ → List ℕ → Type 0
+CalledInOrder m k b columns rows cells = InOrder (λ n s v. (q : Changed) × Changes m k b (getD columns n 0) (getD rows n 0) (newCell b cells n) s v q)
+
+unfoldable pub ManyAsOneByOne : Type 0
+ManyAsOneByOne = (m k b : ℕ) (columns rows cells s after v : List ℕ) → ChangesAll m k b columns rows cells s after changedAll.Done
+    → CalledInOrder m k b columns rows cells (length columns) s v → v ≡ after
+
+unfoldable pub ItemAsChange : Type 0
+ItemAsChange = (m k b item : ℕ) (columns rows cells s after : List ℕ) (f : Refusal) → ChangesAll m k b columns rows cells s after (changedAll.ItemRefused item f)
+    → (n : ℕ) (v : List ℕ) (q : Changed) → Changes m k b (getD columns n 0) (getD rows n 0) (newCell b cells n) s v q
+    → (n < item → q ≡ changed.Done) × (n ≡ item → q ≡ changed.Refused f)
+
+unfoldable pub SevenOrEleven : Type 0
+SevenOrEleven = (m k b item : ℕ) (columns rows cells s after : List ℕ) (f : Refusal) → ChangesAll m k b columns rows cells s after (changedAll.ItemRefused item f)
+    → (item < length columns) × (item < 256)
+    × (((f ≡ NoSuchColumn) × (k ≤ getD columns item 0)) ⊎ ((f ≡ NoSuchRow) × (getD columns item 0 < k) × (m - 1 ≤ getD rows item 0)))
+
+unfoldable pub NothingToChange : Type 0
+NothingToChange = (m k b : ℕ) (cells s after : List ℕ) (r : ChangedAll) → Gives (stripeRules m k b (length s)) pass → ChangesAll m k b [] [] cells s after r
+    → (after ≡ s) × (length cells ≡ 0 → r ≡ changedAll.Done) × (length cells ≢ 0 → r ≡ changedAll.Refused WrongLists)
+
+unfoldable pub LastValueStands : Type 0
+LastValueStands = (m k b : ℕ) (columns rows cells s after : List ℕ) → ChangesAll m k b columns rows cells s after changedAll.Done
+    → ((n l : ℕ) → n < length columns → l < b → ((i : ℕ) → n < i → i < length columns → getD columns n 0 ≡ getD columns i 0 → getD rows n 0 ≢ getD rows i 0)
+    → byte m b after l (getD rows n 0) (getD columns n 0) ≡ getD cells (n * b + l) 0)
+    × ((l i t : ℕ) → l < b → i < m - 1 → t < k → ((n : ℕ) → n < length columns → t ≡ getD columns n 0 → i ≢ getD rows n 0)
+    → byte m b after l i t ≡ byte m b s l i t)
+
+unfoldable pub ManyAsEncode : Type 0
+ManyAsEncode = (m k b : ℕ) (columns rows cells s after edited fresh : List ℕ) (q : Encoded) → Valid m k b s → ChangesAll m k b columns rows cells s after changedAll.Done
+    → InOrder (λ n. Edited m k b (getD columns n 0) (getD rows n 0) (newCell b cells n)) (length columns) s edited → Encodes m k b edited fresh q
+    → (q ≡ encoded.Done) × (after ≡ fresh)
+
+unfoldable pub ManyKeepBroken : Type 0
+ManyKeepBroken = (m k b : ℕ) (columns rows cells s after : List ℕ) → ChangesAll m k b columns rows cells s after changedAll.Done
+    → SameAmounts m k b s after × SameBroken m k b s after
+    × ((r q : Checked) → Checks m k b s r → Checks m k b after q → (rowsOf r ≡ rowsOf q) × (diagonalsOf r ≡ diagonalsOf q))
+    × (Stripe m k b s → ((x : ℕ) → getD cells x 0 < 256) → Valid m k b s ↔ Valid m k b after)
 
 unfoldable pub SixOrAThird : Type 0
 SixOrAThird = (m k b x y : ℕ) (s wrong : List ℕ) (r : Checked) (q : Located) → Shape m k b → TwoChanged m k b x y s wrong → Checks m k b wrong r → Locates m k b wrong q

@@ -6,6 +6,7 @@ pub mod Restores
 pub mod Locates
 pub mod Rewrites
 pub mod Changes
+pub mod ChangesAll
 pub mod Mends
 pub mod Shows
 pub mod Determined

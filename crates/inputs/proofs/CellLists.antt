@@ -2,6 +2,7 @@
 --   ListNumbers, lists-good   what is known where the numbers, the stripe's length and those of the lists are right
 --   lists-given, lists-passed   the rules pass exactly then; lists-refused: where the lists are not right
 --   passes-item, item-passes    an item passes exactly where it names a cell of the data
+--   items-good, items-refused   what the answer to the items says
 --   before-pass, first-seven, first-eleven   the items before the first that names none pass, and why that one is refused
 use mathlib.Core.Path.{_≡_, refl}
 use mathlib.Core.Logic.{_≢_, _⊎_, inl, inr}
@@ -10,13 +11,16 @@ use Prim.Native.Nat.{ℕ, _-_, _*_, _≤_, _<_}
 use native.Mathlib.Omega.{arith}
 use lib.ListN.{length, getD}
 use Rattle.parity.specs.Shape.{Shape, stripeLength}
+use Rattle.refusals.specs.declared.Refusal.{Refusal}
 use Rattle.refusals.specs.declared.Refusal.the-variants.{NoSuchColumn, NoSuchRow, WrongLists}
 use Rattle.refusals.specs.Refusals.{pass, Gives, EachPasses, FirstRefused}
 use Rattle.refusals.proofs.Rules.{gives-first, gives-next, gives-after, gives-passed, passed-first, equal-of}
+use Rattle.inputs.specs.declared.lists.Items.{Items}
+use Rattle.inputs.specs.declared.lists.Items.the-variants as items
 use Rattle.inputs.specs.declared.shapes.Judged.{Judged}
 use Rattle.inputs.specs.declared.shapes.Judged.the-variants.{Good, Refused}
 use Rattle.inputs.specs.Rules.{wrongLists, stripeRules, listRules, itemRules}
-use Rattle.inputs.specs.Lists.{JudgesLists, OfData, FirstOutside, rulesOf}
+use Rattle.inputs.specs.Lists.{JudgesLists, OfData, FirstOutside, rulesOf, JudgesItems}
 use Rattle.inputs.proofs.Stripe.{stripe-passed, stripe-given}
 use Rattle.inputs.proofs.Tests.{told-passed, good-column, Numbers}
 
@@ -77,3 +81,12 @@ module _ {m k : ℕ} {columns rows : List ℕ} {n : ℕ} (first : FirstOutside m
   first-eleven h t =
       let out : getD rows n 0 < m - 1 → ⊥ = λ i. first .there h (t, i) in
       record { inside = h; before = before-pass; refused = gives-next (λ x. omega arith) (gives-first (omega arith)) }
+
+module _ (m k : ℕ) (columns rows : List ℕ) where
+  pub items-good : (j : Items) → JudgesItems m k columns rows j → j ≡ items.Good → EachPasses (rulesOf m k columns rows) (length columns)
+  items-good items.Good h e = h
+  items-good (items.Refused i g) h e = absurd (let z : _≡_ {A = ℕ} 0 1 = cc in omega arith)
+
+  pub items-refused : (j : Items) {item : ℕ} {f : Refusal} → JudgesItems m k columns rows j → j ≡ items.Refused item f → FirstRefused (rulesOf m k columns rows) (length columns) item f
+  items-refused items.Good h e = absurd (let z : _≡_ {A = ℕ} 0 1 = cc in omega arith)
+  items-refused (items.Refused i g) {item} {f} h e = let same : item ≡ i = cc in let refusal : f ≡ g = cc in rw (same, refusal) h

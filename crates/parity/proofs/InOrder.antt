@@ -1,13 +1,27 @@
--- Laws of `InOrder`: steps 0 to n - 1, one after another.
+-- Laws of items, and of `InOrder`: steps 0 to n - 1, one after another.
+--   new-size, new-at     of n items' new bytes, end to end, those of item i are b, and where they stand
 --   no-step, one-more    no step; one step more
 --   kept-along           what every step keeps is kept, and each step can be read as another of which that lets it be one
 --   order-one            where each step leads to one stripe, so do all
 use mathlib.Core.Path.{_≡_, refl, sym, subst, _∙_}
 use mathlib.Core.List.{List}
-use Prim.Native.Nat.{ℕ, zero, suc, _+_, _<_}
+use Prim.Native.Nat.{ℕ, zero, suc, _+_, _*_, _≤_, _<_}
+use native.Mathlib.Nat.{suc-mul, mul-le-mul-right}
 use native.Mathlib.Numerals.{add-one}
 use native.Mathlib.Omega.{arith}
-use Rattle.parity.specs.Change.{InOrder}
+use lib.ListN.{length, getD, drop, length-drop}
+use lib.Seq.{getD-take, getD-drop, length-take-le}
+use Rattle.parity.specs.Change.{newCell, InOrder}
+
+module _ (b : ℕ) (cells : List ℕ) (i : ℕ) where
+  pub new-size : (n : ℕ) → i < n → length cells ≡ n * b → length (newCell b cells i) ≡ b
+  new-size n h full =
+      let most : suc i * b ≤ n * b = mul-le-mul-right b h in
+      let end : suc i * b ≡ i * b + b = suc-mul i b in
+      length-take-le b (drop (i * b) cells) (simp length-drop (omega arith))
+
+  pub new-at : (l : ℕ) → l < b → getD (newCell b cells i) l 0 ≡ getD cells (i * b + l) 0
+  new-at l h = getD-take b (drop (i * b) cells) l 0 h ∙ getD-drop (i * b) cells l 0
 
 module _ (step : ℕ → List ℕ → List ℕ → Type 0) where
   pub no-step : (s : List ℕ) → InOrder step 0 s s
