@@ -5,6 +5,9 @@ use std::ops::Range;
 pub const PLACES: usize = 129;
 pub const NO_COLUMN: usize = 129;
 pub const NO_PLACE: usize = 129;
+/// So many changes can be asked for at once. They are counted from 0, and so this number stands for none of them.
+pub const MOST_ITEMS: usize = 256;
+pub const NO_ITEM: usize = MOST_ITEMS;
 
 pub const FINE: u8 = 0;
 pub const WRONG_M: u8 = 1;
@@ -21,6 +24,7 @@ pub const BAD_ROW: u8 = 11;
 pub const WRONG_K: u8 = 12;
 pub const WRONG_B: u8 = 13;
 pub const BAD_CELL: u8 = 14;
+pub const BAD_LISTS: u8 = 15;
 pub const LYING_MAP: u8 = 17;
 
 // What a check or a locate found.
@@ -400,22 +404,57 @@ pub fn rewrite(shape: Shape, stripe: &mut [u8], column: usize) -> Rewritten {
     }
 }
 
-pub struct Changed { pub number: u8 }
-
-/// A data cell gets new bytes, and H and D become what the edited data gives, each cell with the amount added by which its
-/// equation broke before.
-pub fn change(shape: Shape, stripe: &mut [u8], column: usize, row: usize, cell: &[u8]) -> Changed {
-    let number = judge_plain(shape, stripe);
-    if number != FINE { return Changed { number }; }
-    if column >= shape.k { return Changed { number: BAD_NUMBER }; }
-    if row >= shape.m - 1 { return Changed { number: BAD_ROW }; }
-    if cell.len() != shape.b { return Changed { number: BAD_CELL }; }
+/// The data is edited, and H and D become what the edited data gives, each cell with the amount added by which its equation
+/// broke before.
+fn edit_data(shape: Shape, stripe: &mut [u8], edit: impl FnOnce(&mut [u8])) {
     let before = amounts(shape, stripe);
-    stripe[shape.cell_bytes(row, column)].copy_from_slice(cell);
+    edit(stripe);
     let mut parity = parity_on_paper(shape, stripe);
     add_bytes(&mut parity, &before);
     stripe[shape.k * shape.column_length()..].copy_from_slice(&parity);
+}
+
+/// The refusal of a cell of the data that is named.
+fn judge_named(shape: Shape, column: usize, row: usize) -> u8 {
+    if column >= shape.k { return BAD_NUMBER; }
+    if row >= shape.m - 1 { return BAD_ROW; }
+    FINE
+}
+
+pub struct Changed { pub number: u8 }
+
+/// A data cell gets new bytes.
+pub fn change(shape: Shape, stripe: &mut [u8], column: usize, row: usize, cell: &[u8]) -> Changed {
+    let number = judge_plain(shape, stripe);
+    if number != FINE { return Changed { number }; }
+    let number = judge_named(shape, column, row);
+    if number != FINE { return Changed { number }; }
+    if cell.len() != shape.b { return Changed { number: BAD_CELL }; }
+    edit_data(shape, stripe, |stripe| stripe[shape.cell_bytes(row, column)].copy_from_slice(cell));
     Changed { number }
+}
+
+pub struct ChangedAll { pub number: u8, pub item: usize }
+
+/// Data cells get new bytes one after another, or none does. The amounts are taken down once, before the first of them, and H and
+/// D are reckoned once, after the last.
+pub fn changes(shape: Shape, stripe: &mut [u8], columns: &[usize], rows: &[usize], cells: &[u8]) -> ChangedAll {
+    let of_none = |number| ChangedAll { number, item: NO_ITEM };
+    let number = judge_plain(shape, stripe);
+    if number != FINE { return of_none(number); }
+    let count = columns.len();
+    if rows.len() != count || count > MOST_ITEMS || cells.len() != count * shape.b { return of_none(BAD_LISTS); }
+    let named = || columns.iter().copied().zip(rows.iter().copied());
+    for (item, (column, row)) in named().enumerate() {
+        let number = judge_named(shape, column, row);
+        if number != FINE { return ChangedAll { number, item }; }
+    }
+    edit_data(shape, stripe, |stripe| {
+        for ((column, row), cell) in named().zip(cells.chunks(shape.b)) {
+            stripe[shape.cell_bytes(row, column)].copy_from_slice(cell);
+        }
+    });
+    of_none(FINE)
 }
 
 pub struct Shown { pub number: u8, pub from_bench: bool, pub start: usize, pub length: usize }

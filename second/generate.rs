@@ -72,6 +72,8 @@ pub const PLAIN_ORDER: [u8; 4] = [1, 12, 13, 2];
 pub const RESTORE_ORDER: [u8; 8] = [1, 12, 13, 2, 3, 9, 4, 5];
 pub const REWRITE_ORDER: [u8; 6] = [1, 12, 13, 2, 7, 5];
 pub const CHANGE_ORDER: [u8; 7] = [1, 12, 13, 2, 7, 11, 14];
+/// Of a list of changes. 7 and 11 are of an item, and the first item that bears one is given; within one 7 is before 11.
+pub const LIST_ORDER: [u8; 7] = [1, 12, 13, 2, 15, 7, 11];
 pub const SHOW_ORDER: [u8; 8] = [1, 12, 13, 2, 3, 9, 7, 4];
 /// How an image's first eight bytes are judged.
 pub const HEADER_ORDER: [u8; 4] = [8, 1, 12, 13];
@@ -121,6 +123,31 @@ pub const CHANGE_WAYS: [(u8, &[&str]); 4] = [
 
 /// Columns and rows between are one of these above a right one, or 129.
 pub const FAR: [usize; 3] = [1 << 8, 1 << 32, 1 << 63];
+
+/// How many items a list of changes has that is not refused; some are 8 to 40.
+pub const LIST_COUNTS: [&str; 6] = ["0", "1", "2", "some", "255", "256"];
+/// How often a list names one cell, and what that cell ends with: what it held before, what the first of these items puts there,
+/// or neither.
+pub const TIMES: [(&str, usize); 2] = [("twice", 2), ("three times", 3)];
+pub const ENDINGS: [&str; 3] = ["another", "held", "first"];
+/// The ways in which lists disagree, or hold too many items.
+pub const LIST_WAYS: [&str; 14] = [
+    "a column more", "a column less", "a row more", "a row less", "no columns", "no rows", "a byte more", "a byte less",
+    "a cell more", "a cell less", "no cells", "cells alone", "257", "many",
+];
+/// So many are many: cut to eight bits they would be few, or none.
+const MANY: [usize; 3] = [258, 512, 513];
+/// The ways to make a fault of an item: the columns and the rows that are refused. Cut to fewer bits, some would be right.
+pub const ITEM_WAYS: [(u8, &[&str]); 2] = [
+    (7, &["k", "k+1", "k+2", "129", "2^8 above", "2^32 above", "2^63 above", "max"]),
+    (11, &["m-1", "m", "129", "2^8 above", "2^32 above", "2^63 above", "max"]),
+];
+/// Where in its list an item stands that is refused.
+pub const ITEM_PLACES: [&str; 3] = ["first", "middle", "last"];
+/// Two faults of items: of an item and of a later one, or of the same.
+pub const ITEM_PAIRS: [&str; 5] = ["7 then 11", "11 then 7", "7 and 11", "7 then 7", "11 then 11"];
+/// A request's cells have at most so many bytes.
+const LIST_BYTES: usize = 80_000;
 
 /// What of a stripe is not zero.
 #[derive(Clone, Copy, PartialEq)]
@@ -362,6 +389,122 @@ fn change_recipes() -> Vec<Change> {
     list
 }
 
+/// The column and the row of a cell.
+type Place = (usize, usize);
+
+/// An item that is refused: its place, the number, and the way.
+type BadItem = (usize, u8, &'static str);
+
+/// Which cells a list of changes names, and what they get.
+#[derive(Clone, Copy)]
+#[rustfmt::skip]
+enum Named {
+    /// Drawn ones.
+    Any,
+    /// Drawn ones, which get what they hold.
+    Held,
+    /// Drawn ones on the diagonal of S.
+    OnS,
+    /// All of the data, each once.
+    All,
+    /// One of them so many times, with this ending, and drawn others.
+    Same(usize, &'static str),
+}
+
+/// A list of changes: its faults but those of items, and in which way lists disagree; the places of the items that are refused,
+/// each with its number and the way; a kind of shapes; and the stripe, how many items there are, and which cells they name, as
+/// far as no fault settles it. Ways to break a stripe come in turn.
+struct List {
+    faults: Vec<u8>,
+    way: &'static str,
+    bad: Vec<BadItem>,
+    shape: &'static str,
+    stripe: &'static str,
+    count: &'static str,
+    named: Named,
+    turn: usize,
+}
+
+/// Lists that are not refused. All counts are met with all kinds of stripes and of shapes; one cell is named twice and three
+/// times with every ending and in every kind of stripe; many items are on the diagonal of S.
+fn right_lists() -> Vec<List> {
+    let mut list: Vec<List> = Vec::new();
+    let mut add = |count: &'static str, named: Named, shape: &'static str, stripe: usize| {
+        let (turn, stripe) = (list.len(), CHANGED_STRIPES[stripe % 3]);
+        list.push(List { faults: vec![], way: "", bad: vec![], shape, stripe, count, named, turn });
+    };
+    for (x, count) in LIST_COUNTS.into_iter().enumerate() {
+        EXTENTS.into_iter().enumerate().for_each(|(y, shape)| add(count, Named::Any, shape, x + y));
+    }
+    for (x, (_, times)) in TIMES.into_iter().enumerate() {
+        for (y, ending) in ENDINGS.into_iter().enumerate() {
+            (0..3).for_each(|stripe| add("some", Named::Same(times, ending), EXTENTS[(x + y + stripe) % 3], stripe));
+        }
+    }
+    for (y, shape) in EXTENTS.into_iter().enumerate() {
+        (0..3).for_each(|stripe| add(if stripe == y { "256" } else { "some" }, Named::OnS, shape, stripe));
+        add("some", Named::All, shape, y);
+        add("some", Named::Held, shape, y);
+    }
+    for (n, count) in ["1", "256"].into_iter().enumerate() { add(count, Named::Any, "b=1", n); }
+    for (n, count) in ["1", "2", "3"].into_iter().enumerate() { add(count, Named::Any, "b=4096", n); }
+    for (n, shape) in ["k=1", "k=m", "m=k=127"].into_iter().enumerate() { add("256", Named::Any, shape, n); }
+    add("256", Named::OnS, "m=k=127", 0);
+    // One item, and another row of H is wrong.
+    let elsewhere = BREAKS.iter().position(|way| matches!(way, Break::Elsewhere)).expect("it is one of them");
+    add("1", Named::Any, "small", 1);
+    list.last_mut().expect("it was added").turn = elsewhere;
+    list
+}
+
+/// Lists that are refused: for every fault alone in every way, for an item in every place, for two items, and for every two
+/// faults.
+fn wrong_lists() -> Vec<List> {
+    let mut list: Vec<List> = Vec::new();
+    let mut add = |faults: &[u8], way: &'static str, bad: &[BadItem], shape: &'static str, count: &'static str| {
+        let turn = list.len();
+        let (faults, bad, stripe) = (faults.to_vec(), bad.to_vec(), CHANGED_STRIPES[(turn + turn / 3) % 3]);
+        list.push(List { faults, way, bad, shape, stripe, count, named: Named::Any, turn });
+    };
+    // So often that every wrong b is met, and k = 0, k = m+1, one up to 127 and the largest.
+    for (number, times) in [(1, 4), (12, 10), (13, 8)] {
+        (0..times).for_each(|_| add(&[number], "", &[], "short", "2"));
+    }
+    for shape in EXTENTS.into_iter().chain(["b=1", "b=4096"]) { add(&[2], "", &[], shape, "2"); }
+    for (x, way) in LIST_WAYS.into_iter().enumerate() {
+        for (y, shape) in EXTENTS.into_iter().enumerate() { add(&[15], way, &[], shape, ["2", "some", "256"][(x + y) % 3]); }
+    }
+    add(&[15], "257", &[], "b=1", "some");
+    add(&[15], "a byte less", &[], "b=4096", "2");
+    for (number, ways) in ITEM_WAYS {
+        for (x, way) in ways.iter().copied().enumerate() {
+            for place in 0..3 { add(&[], "", &[(place, number, way)], EXTENTS[(x + place) % 3], ["3", "some", "256"][x % 3]); }
+        }
+        add(&[], "", &[(0, number, "max")], "small", "1");
+        add(&[], "", &[(2, number, "2^8 above")], "b=1", "2");
+        add(&[], "", &[(2, number, ways[0])], "b=4096", "2");
+        add(&[], "", &[(2, number, ways[0])], "m=k=127", "256");
+    }
+    let two_items = [
+        [(0, 7, "max"), (1, 11, "m")], [(1, 11, "m-1"), (2, 7, "k")], [(1, 7, "k"), (1, 11, "max")],
+        [(0, 7, "k+1"), (2, 7, "max")], [(1, 11, "m"), (2, 11, "m-1")],
+    ];
+    for (x, bad) in two_items.iter().enumerate() {
+        for (y, shape) in EXTENTS.into_iter().enumerate() { add(&[], "", bad, shape, ["3", "some", "256"][(x + y) % 3]); }
+    }
+    for (n, faults) in together(&LIST_ORDER).into_iter().enumerate() {
+        let ways = [(7, ["k", "max"]), (11, ["m-1", "max"])].into_iter().filter(|(number, _)| faults.contains(number));
+        let bad: Vec<BadItem> = ways.map(|(number, ways)| (n % 3, number, ways[n % 2])).collect();
+        let others: Vec<u8> = faults.into_iter().filter(|number| ![7, 11].contains(number)).collect();
+        add(&others, ["a row more", "a column more", "a byte more"][n / 3 % 3], &bad, EXTENTS[n % 3], "3");
+    }
+    // The faults of items are looked at last, wherever they stand.
+    for (n, way) in LIST_WAYS.into_iter().filter(|way| !["no columns", "no rows", "cells alone"].contains(way)).enumerate() {
+        add(&[15], way, &[(0, [7, 11][n % 2], "max")], EXTENTS[n % 3], "3");
+    }
+    list
+}
+
 fn image_recipes() -> Vec<Recipe> {
     let mut list = vec![Recipe::Contents(vec![], "far"), Recipe::Read(vec![], "any", false)];
     for pattern in PATTERNS.into_iter().chain(["all", "all"]) {
@@ -434,15 +577,22 @@ impl Maker {
         }
     }
 
-    /// One of 25 is a change of a cell. These are made from a seed of their own, so that the others stay what they are.
+    /// Of 25 one is a change of a cell, and two are lists of changes. These are made from seeds of their own, so that the others
+    /// stay what they are.
     pub fn cases(mut self, count: usize) -> impl Iterator<Item = Case> {
         let mut changes = Maker::new(!self.random.0).changes();
+        let mut lists = Maker::new(self.random.0 ^ 1 << 63).lists();
         let first = [code_recipes(), two_wrong_recipes(), gap_recipes(), length_recipes()];
         let second = [code_recipes(), two_wrong_recipes(), faint_recipes(), image_recipes()];
         let recipes: Vec<Recipe> = first.into_iter().chain(second).flatten().collect();
+        let mut turn = 0;
         (0..count).map(move |n| match n % 25 {
+            8 | 16 => lists.next().expect("they do not end"),
             24 => changes.next().expect("they do not end"),
-            _ => self.make(&recipes[(n - n / 25) % recipes.len()]),
+            _ => {
+                turn += 1;
+                self.make(&recipes[(turn - 1) % recipes.len()])
+            }
         })
     }
 
@@ -453,11 +603,18 @@ impl Maker {
         (0..).map(move |n| self.change(&recipes[n % recipes.len()]))
     }
 
+    /// Lists of changes, without end.
+    pub fn lists(mut self) -> impl Iterator<Item = Case> {
+        self.bad_turns[1] = BAD_K.len() - 2;
+        let recipes: Vec<List> = right_lists().into_iter().chain(wrong_lists()).collect();
+        (0..).map(move |n| self.list(&recipes[n % recipes.len()]))
+    }
+
     /// At each of several small shapes, of a valid stripe and with each column wrong: a check, a locate, a rewrite of
     /// every column, and every set of at most two absent columns; and checks and locates of the stripe that is all zero, and
     /// of it with one byte set; and requests about valid stripes with every two columns wrong. Then a few requests at large
-    /// shapes, the gaps of a few maps for every k from 0 to 130, and lengths for every m from 0 to 140. Last are changes of
-    /// every cell at the small shapes, and of a few at large ones.
+    /// shapes, the gaps of a few maps for every k from 0 to 130, and lengths for every m from 0 to 140. Then come changes of
+    /// every cell at the small shapes, and of a few at large ones. Last are lists of changes.
     pub fn every_pattern(mut self) -> Vec<Request> {
         let mut requests = Vec::new();
         for (m, k, b) in SMALL {
@@ -520,6 +677,110 @@ impl Maker {
             let wrapping = [(2, m - 2), (last, m - last)];
             let cells = corners.into_iter().chain(on_s).chain(wrapping).collect();
             requests.extend(self.changes_of(Shape { m, k, b }, cells, false));
+        }
+        for (m, k, b) in SMALL {
+            requests.extend(self.lists_of_all(Shape { m, k, b }));
+        }
+        requests.extend(self.every_list());
+        for (m, k, b) in LARGE_CHANGES {
+            requests.extend(self.large_lists(Shape { m, k, b }));
+        }
+        requests
+    }
+
+    /// A stripe, one of each kind by turns, and the cells named get any bytes.
+    fn any_list(&mut self, shape: Shape, named: Vec<Place>, turn: usize) -> (Vec<u8>, Vec<usize>, Vec<usize>, Vec<u8>) {
+        let (column, row) = named.first().copied().unwrap_or((0, 0));
+        let stripe = self.stripe_to_change(shape, CHANGED_STRIPES[turn % 3], column, row, turn);
+        let cells = self.random.bytes(named.len() * shape.b);
+        let (columns, rows) = named.into_iter().unzip();
+        (stripe, columns, rows, cells)
+    }
+
+    /// Every cell of the data once, in order and turned; twice, next to each other and all once more; and three times, so that in
+    /// the end it holds what it held.
+    fn lists_of_all(&mut self, shape: Shape) -> Vec<Request> {
+        let Shape { m, k, b } = shape;
+        let all: Vec<Place> = (0..k).flat_map(|column| (0..m - 1).map(move |row| (column, row))).collect();
+        let turned: Vec<Place> = all.iter().rev().copied().collect();
+        let pairs = all.iter().flat_map(|&cell| [cell, cell]).collect();
+        let orders = [all.clone(), turned.clone(), pairs, [&all[..], &turned].concat(), [&all[..], &all, &all].concat()];
+        let mut requests = Vec::new();
+        let start = self.random.below(BREAKS.len());
+        for (n, named) in orders.into_iter().enumerate() {
+            for turn in 2 * n..2 * n + 2 {
+                let (stripe, columns, rows, mut cells) = self.any_list(shape, named.clone(), start + turn);
+                if n == 4 { cells[2 * all.len() * b..].copy_from_slice(&stripe[..all.len() * b]); }
+                requests.push(Request::Changes(shape, stripe, columns, rows, cells));
+            }
+        }
+        requests
+    }
+
+    /// At small shapes lists of every count from 0 to 260, and one of so many items that cut to sixteen bits it is one; of 256
+    /// items every one refused, for its column and for its row, and all at once with the largest numbers there are; of four items
+    /// every one and every two, for each; and few columns, rows and bytes, in every number of each.
+    fn every_list(&mut self) -> Vec<Request> {
+        let mut requests = Vec::new();
+        let c1_shape = Shape { m: 3, k: 3, b: 1 };
+        for count in (0..=260).chain([(1 << 16) + 1]) {
+            let named = self.named(c1_shape, Named::Any, count, 0).0;
+            let (stripe, columns, rows, cells) = self.any_list(c1_shape, named, count);
+            requests.push(Request::Changes(c1_shape, stripe, columns, rows, cells));
+        }
+        for largest in [[MAX, MAX], [0, MAX], [MAX, 0]] {
+            let (stripe, cells) = (self.valid_stripe(c1_shape), self.random.bytes(MOST_ITEMS));
+            let [columns, rows] = largest.map(|number| vec![number; MOST_ITEMS]);
+            requests.push(Request::Changes(c1_shape, stripe, columns, rows, cells));
+        }
+        let mut with_bad = |maker: &mut Maker, shape: Shape, count: usize, bad: &[(usize, u8)], turn: usize| {
+            let named = maker.named(shape, Named::Any, count, 0).0;
+            let (stripe, mut columns, mut rows, cells) = maker.any_list(shape, named, turn);
+            for &(item, number) in bad {
+                let (to, limit) = if number == BAD_NUMBER { (&mut columns, shape.k) } else { (&mut rows, shape.m - 1) };
+                to[item] = maker.random.one_of(&[limit, limit + 1, MAX]);
+            }
+            requests.push(Request::Changes(shape, stripe, columns, rows, cells));
+        };
+        for (item, number) in (0..MOST_ITEMS).flat_map(|item| [(item, BAD_NUMBER), (item, BAD_ROW)]) {
+            with_bad(self, c1_shape, MOST_ITEMS, &[(item, number)], item);
+        }
+        let four: Vec<(usize, u8)> = (0..4).flat_map(|item| [(item, BAD_NUMBER), (item, BAD_ROW)]).collect();
+        for (n, &one) in four.iter().enumerate() {
+            let shape = Shape { m: 5, k: 3, b: 2 };
+            with_bad(self, shape, 4, &[one], n);
+            four[n + 1..].iter().for_each(|&other| with_bad(self, shape, 4, &[one, other], n));
+        }
+        for b in [1, 2] {
+            for (columns, rows) in (0..4).flat_map(|columns| (0..4).map(move |rows| (columns, rows))) {
+                for bytes in 0..=3 * b + 1 {
+                    let shape = Shape { b, ..c1_shape };
+                    let stripe = self.stripe_to_change(shape, CHANGED_STRIPES[bytes % 3], 0, 0, bytes);
+                    let mut some = |count: usize, limit: usize| (0..count).map(|_| self.random.below(limit)).collect();
+                    let (columns, rows) = (some(columns, 3), some(rows, 2));
+                    requests.push(Request::Changes(shape, stripe, columns, rows, self.random.bytes(bytes)));
+                }
+            }
+        }
+        requests
+    }
+
+    /// As many drawn cells as a list can have, in a valid stripe, and one less on the diagonal of S, in a broken one; but with
+    /// cells of 4095 bytes, and of 4096 on the diagonal, twenty. With the shortest and the longest cells the first list again,
+    /// with its last item refused.
+    fn large_lists(&mut self, shape: Shape) -> Vec<Request> {
+        let b = shape.b;
+        let named = self.named(shape, Named::Any, if b == 4095 { 20 } else { MOST_ITEMS }, 0).0;
+        let (stripe, columns, rows, cells) = self.any_list(shape, named, 0);
+        let on_s = self.named(shape, Named::OnS, if b > 512 { 20 } else { MOST_ITEMS - 1 }, 0).0;
+        let (broken, columns_on_s, rows_on_s, cells_on_s) = self.any_list(shape, on_s, 1);
+        let mut requests = vec![
+            Request::Changes(shape, stripe.clone(), columns.clone(), rows.clone(), cells.clone()),
+            Request::Changes(shape, broken, columns_on_s, rows_on_s, cells_on_s),
+        ];
+        if b == 1 || b == 4096 {
+            let refused = [&columns[..MOST_ITEMS - 1], &[shape.k]].concat();
+            requests.push(Request::Changes(shape, stripe, refused, rows, cells));
         }
         requests
     }
@@ -1080,11 +1341,12 @@ impl Maker {
             // Of the drawn shapes with the longest cells none has three data columns.
             let s = match kind {
                 "b=4096" => Shape { m: 3, k: 1 + self.random.below(3), b: 4096 },
+                "m=k=127" => Shape { m: 127, k: 127, b: 1 },
                 _ => self.shape(),
             };
             let is_kind = match kind {
                 "b=1" => s.b == 1,
-                "b=4096" => true,
+                "b=4096" | "m=k=127" => true,
                 "k=1" => s.k == 1,
                 "k=m" => s.k == s.m,
                 // So short that most wrong numbers leave a stripe that can be made.
@@ -1184,6 +1446,142 @@ impl Maker {
         }
         let expected = CHANGE_ORDER.into_iter().find(|&number| has(number)).unwrap_or(FINE);
         Case { request: Request::Change(shape, stripe, column, row, new), expected: Some(expected) }
+    }
+
+    /// The columns and the rows of so many cells; with them, where one is named several times, which that is. It is on the
+    /// diagonal of S or off it, and its items stand next to each other or apart, by turns.
+    fn named(&mut self, shape: Shape, named: Named, count: usize, turn: usize) -> (Vec<Place>, Option<Place>) {
+        let Shape { m, k, .. } = shape;
+        let all = k * (m - 1);
+        let place = |cell: usize| (cell / (m - 1), cell % (m - 1));
+        let (times, one) = match named {
+            Named::OnS => return ((0..count).map(|_| self.cell_to_change(shape, "on S", 0)).collect(), None),
+            Named::All => {
+                let start = self.random.below(all);
+                let in_order = (0..all).map(|n| place((start + n) % all));
+                return (if turn % 2 == 0 { in_order.collect() } else { in_order.rev().collect() }, None);
+            }
+            Named::Any | Named::Held => return ((0..count).map(|_| place(self.random.below(all))).collect(), None),
+            Named::Same(times, _) if turn % 2 == 0 => (times, self.cell_to_change(shape, "on S", 0)),
+            Named::Same(times, _) => loop {
+                let (column, row) = place(self.random.below(all));
+                if column + row != m - 1 { break (times, (column, row)); }
+            },
+        };
+        let others: Vec<usize> = (0..all).filter(|&cell| place(cell) != one).collect();
+        let mut list: Vec<Place> = (times..count).map(|_| place(self.random.one_of(&others))).collect();
+        let middle = list.len() / 2;
+        let apart = [0, list.len() + 1, middle + 1];
+        for at in &apart[..times] { list.insert(if turn / 2 % 2 == 0 { middle } else { *at }, one); }
+        (list, Some(one))
+    }
+
+    /// Other bytes than these.
+    fn other_cell(&mut self, b: usize, than: &[&[u8]]) -> Vec<u8> {
+        loop {
+            let new = self.random.bytes(b);
+            if !than.contains(&&new[..]) { return new; }
+        }
+    }
+
+    /// New bytes for the cells named, end to end: drawn ones, zeros, what the cell holds, or one byte of it changed.
+    fn new_cells(&mut self, shape: Shape, stripe: &[u8], named: &[Place], how: Named, one: Option<Place>) -> Vec<u8> {
+        let b = shape.b;
+        let mut cells: Vec<Vec<u8>> = Vec::new();
+        for &(column, row) in named {
+            let mut new = stripe[shape.cell_bytes(row, column)].to_vec();
+            match (how, self.random.below(8)) {
+                (Named::Held, _) | (_, 0) => {}
+                (_, 1) => new.fill(0),
+                (_, 2) => new[self.random.below(b)] ^= self.random.nonzero(),
+                _ => new = self.random.bytes(b),
+            }
+            cells.push(new);
+        }
+        if let (Named::Same(_, ending), Some((column, row))) = (how, one) {
+            let held = stripe[shape.cell_bytes(row, column)].to_vec();
+            let items: Vec<usize> = (0..named.len()).filter(|&item| named[item] == (column, row)).collect();
+            let first = self.other_cell(b, &[&held]);
+            for &item in &items { cells[item] = self.other_cell(b, &[&held, &first]); }
+            if ending == "held" { cells[items[items.len() - 1]] = held; }
+            if ending == "first" { cells[items[items.len() - 1]] = first.clone(); }
+            cells[items[0]] = first;
+        }
+        cells.concat()
+    }
+
+    /// A list of changes that bears exactly the faults named. But as in a change others may come along with a wrong number of the
+    /// shape.
+    fn list(&mut self, recipe: &List) -> Case {
+        let List { ref faults, ref bad, way, turn, .. } = *recipe;
+        let has = |number: u8| faults.contains(&number);
+        let count = match (recipe.count, way) {
+            (_, "257") => MOST_ITEMS + 1,
+            (_, "many") => MANY[turn % 3],
+            ("some", _) => 8 + self.random.below(33),
+            (number, _) => number.parse().expect("a number"),
+        };
+        let cell = if let Named::OnS | Named::Same(..) = recipe.named { "on S" } else { "any" };
+        let good = loop {
+            let shape = self.shape_to_change(recipe.shape, cell);
+            let all = shape.k * (shape.m - 1);
+            if count * shape.b <= LIST_BYTES && (all <= MOST_ITEMS || !matches!(recipe.named, Named::All)) { break shape; }
+        };
+        let (named, one) = self.named(good, recipe.named, count, turn);
+        let (column, row) = named.first().copied().unwrap_or((0, 0));
+        let mut stripe = self.stripe_to_change(good, recipe.stripe, column, row, turn);
+        let mut cells = self.new_cells(good, &stripe, &named, recipe.named, one);
+        let (mut columns, mut rows): (Vec<usize>, Vec<usize>) = named.into_iter().unzip();
+
+        let shape = self.spoil(good, faults, faults.len() == 1 && bad.is_empty(), |s| bad.is_empty() || s.k < MAX - 2);
+        let Shape { m, k, b } = shape;
+        let height = m.saturating_sub(1);
+        if shape != good {
+            follow(shape, &mut stripe);
+            columns.iter_mut().for_each(|column| *column = (*column).min(k.saturating_sub(1)));
+            rows.iter_mut().for_each(|row| *row = (*row).min(height.saturating_sub(1)));
+            if b <= 10_000 { cells.resize(count * b, 7); }
+        }
+        if has(2) { self.bad_length(&mut stripe, good.column_length()); }
+        if has(15) {
+            let bytes = cells.len();
+            match way {
+                "a column more" => columns.push(0),
+                "a column less" => columns.truncate(count - 1),
+                "a row more" => rows.push(0),
+                "a row less" => rows.truncate(count - 1),
+                "no columns" => columns.clear(),
+                "no rows" => rows.clear(),
+                "a byte more" => cells.push(7),
+                "a byte less" => cells.truncate(bytes.saturating_sub(1)),
+                "a cell more" => cells.resize(bytes + good.b, 7),
+                "a cell less" => cells.truncate(bytes - good.b),
+                "no cells" => cells.clear(),
+                "cells alone" => {
+                    (columns, rows) = (vec![], vec![]);
+                    cells.truncate([bytes, good.b, 1][turn % 3]);
+                }
+                _ => {}
+            }
+        }
+        let middle = if count > 2 { 1 + self.random.below(count - 2) } else { 0 };
+        for &(place, number, way) in bad {
+            let (list, limit) = if number == BAD_NUMBER { (&mut columns, k) } else { (&mut rows, height) };
+            let value = &mut list[[0, middle, count - 1][place]];
+            *value = match way {
+                "k" | "m-1" => limit,
+                "k+1" | "m" => limit + 1,
+                "k+2" => limit + 2,
+                "129" => 129,
+                "2^8 above" => FAR[0] + *value,
+                "2^32 above" => FAR[1] + *value,
+                "2^63 above" => FAR[2] + *value,
+                _ => MAX,
+            };
+        }
+        let of_item = || bad.iter().map(|&(place, number, _)| (place, number)).min().map_or(FINE, |(_, number)| number);
+        let expected = LIST_ORDER.into_iter().find(|&number| has(number)).unwrap_or_else(of_item);
+        Case { request: Request::Changes(shape, stripe, columns, rows, cells), expected: Some(expected) }
     }
 
     fn make(&mut self, recipe: &Recipe) -> Case {

@@ -1,5 +1,5 @@
 //! The numbers of the document, as requests with the answers the document gives, and more about stripes near to blank, stripes
-//! with two wrong columns, changed cells, wrong shapes, lengths and gaps.
+//! with two wrong columns, changed cells and lists of them, wrong shapes, lengths and gaps.
 
 use crate::code::*;
 use crate::image::shelf;
@@ -27,6 +27,9 @@ const MISSED_WRITE: &str = "010204081020152a391f";
 /// C1 with ff for a(1,1), and C8 with 04 for a(0,1), as a change leaves them.
 const CHANGED_1_1: &str = "010204ff102015ddcee9";
 const C8_CHANGED: &str = "010204081020142a391f";
+/// C1 with every cell of its data changed, and C8 with 04 for a(0,1) and ff for a(1,2), as lists of changes leave them.
+const CHANGED_ALL: &str = "10203040506070006000";
+const C8_LIST: &str = "0102040810ff14f5e61f";
 const C3: &str = "00000000000000010100010100000001010101000001000101010001";
 const C9: &str = "01020408150a191e";
 pub const C5_IMAGE: &str = "0300030001000000\
@@ -187,6 +190,97 @@ fn changes() -> Vec<Number> {
     ]
 }
 
+/// So many items at C1's shape: item n has column n mod 3, row n mod 2, and the cell n mod 256.
+fn items(count: usize) -> (Vec<usize>, Vec<usize>, String) {
+    let cells: Vec<u8> = (0..count).map(|n| n as u8).collect();
+    ((0..count).map(|n| n % 3).collect(), (0..count).map(|n| n % 2).collect(), hex(&cells))
+}
+
+/// Lists of cells that get new bytes at once, and lists that are refused.
+fn lists() -> Vec<Number> {
+    let s = |t: &str| t.to_string();
+    let field = |list: &[usize]| match list {
+        [] => s("-"),
+        list => list.iter().map(usize::to_string).collect::<Vec<String>>().join(","),
+    };
+    let changed = |name, shape: &str, stripe: &str, [columns, rows]: [&[usize]; 2], cells: &str, expected: String| {
+        ask(name, format!("changes {shape} {stripe} {} {} {cells}", field(columns), field(rows)), expected)
+    };
+    let of_c1 = |name, lists, cells: &str, after: &str| changed(name, "3 3 1", C1, lists, cells, format!("0 256 {after}"));
+    let refused = |name, lists, cells: &str, number: u8, item: usize| {
+        changed(name, "3 3 1", C1, lists, cells, format!("{number} {item} {C1}"))
+    };
+    let many = |name, count: usize, expected: String| {
+        let (columns, rows, cells) = items(count);
+        changed(name, "3 3 1", C1, [&columns, &rows], &cells, expected)
+    };
+    let (mut with_3, rows_256, cells_256) = items(256);
+    with_3[255] = 3;
+    let cut = &C1[..18];
+    // S=18 as in C1, for a(0,0) and a(1,2) are not in it. H: ff+04+10=eb, 02+08+fe=f4. D(0)=18+ff+fe=19.
+    let two = "ff02040810feebf4191e";
+    vec![
+        of_c1("changes,none", [&[], &[]], "-", C1),
+        of_c1("changes,one", [&[1], &[1]], "ff", CHANGED_1_1),
+        of_c1("changes,two", [&[0, 2], &[0, 1]], "fffe", two),
+        of_c1("changes,two,turned", [&[2, 0], &[1, 0]], "feff", two),
+        of_c1("changes,twice", [&[1, 1], &[1, 1]], "aaff", CHANGED_1_1),
+        // a(0,2)=55, a(1,0)=22, a(0,1)=44. S=08+55=5d. H: 01+44+55=10, 22+08+20=0a. D: 5d+01+20=7c, 5d+22+44=3b.
+        of_c1("changes,three-times", [&[2, 0, 2, 1, 2], &[0, 1, 0, 0, 0]], "1122334455", "012244085520100a7c3b"),
+        // S=40+50=10. H: 10+30+50=70, 20+40+60=00. D: 10+10+60=60, 10+20+30=00.
+        of_c1("changes,all", [&[0, 0, 1, 1, 2, 2], &[0, 1, 0, 1, 0, 1]], "102030405060", CHANGED_ALL),
+        changed(
+            "changes,back",
+            "3 3 1",
+            CHANGED_ALL,
+            [&[0, 0, 1, 1, 2, 2], &[0, 1, 0, 1, 0, 1]],
+            "010204081020",
+            format!("0 256 {C1}"),
+        ),
+        // Row 0 broke by 01 and D's equation 1 by 01. S=18. H: 01+04+10+01=14, 02+08+ff=f5. D: 18+01+ff=e6, 18+02+04+01=1f.
+        changed("C8,changes", "3 3 1", C1_05, [&[1, 2], &[0, 1]], "04ff", format!("0 256 {C8_LIST}")),
+        ask("C8,changes", format!("check 3 3 1 {C8_LIST}"), s("0 1 1 3")),
+        ask("C8,changes", format!("locate 3 3 1 {C8_LIST}"), s("0 4 1")),
+        // S=ff. H(0)=0f+ff=f0. D: ff+0f=f0, ff.
+        changed("C11,changes", "3 3 1", &zeros(10), [&[2, 0], &[0, 0]], "ff0f", s("0 256 0f000000ff00f000f0ff")),
+        // a(1,1) is on the diagonal of S, and becomes what it was plus e9f7; a(1,0) is in D's equation 1, and becomes what it was
+        // plus cfd9. H(1)=2222+e9f7+cfd9=040c. D: 3333+e9f7=dac4, 4444+e9f7+cfd9=626a.
+        changed(
+            "changes,lanes",
+            "3 2 2",
+            "01020304050607081111222233334444",
+            [&[1, 0, 1], &[1, 1, 1]],
+            "aabbccddeeff",
+            s("0 256 0102ccdd0506eeff1111040cdac4626a"),
+        ),
+        // Six items are every cell once, so of each cell the last six items tell: of 252 to 254 the cells a(0,0), a(1,1), a(0,2),
+        // of 249 to 251 a(1,0), a(0,1), a(1,2). S=fd+fe=03. H: fc+fa+fe=f8, f9+fd+fb=ff. D: 03+fc+fb=04, 03+f9+fa=00.
+        many("changes,items=255", 255, s("0 256 fcf9fafdfefbf8ff0400")),
+        // Item 255 is a(1,0). H(1)=ff+fd+fb=f9. D(1)=03+ff+fa=06.
+        many("changes,items=256", 256, s("0 256 fcfffafdfefbf8f90406")),
+        many("changes,items=257", 257, format!("15 256 {C1}")),
+        refused("changes,first", [&[3, 0, 1], &[0, 0, 0]], "ffffff", 7, 0),
+        refused("changes,middle", [&[0, 4, 1], &[0, 0, 0]], "ffffff", 7, 1),
+        refused("changes,last", [&[0, 1, MAX], &[0, 0, 0]], "ffffff", 7, 2),
+        refused("changes,row-first", [&[0, 1, 2], &[2, 0, 0]], "ffffff", 11, 0),
+        refused("changes,row-middle", [&[0, 1, 2], &[0, MAX, 0]], "ffffff", 11, 1),
+        refused("changes,row-last", [&[0, 1, 2], &[1, 1, 2]], "ffffff", 11, 2),
+        refused("changes,row-then-column", [&[0, 0, 3], &[0, 2, 0]], "ffffff", 11, 1),
+        refused("changes,column-then-row", [&[0, 3, 0], &[0, 0, 2]], "ffffff", 7, 1),
+        refused("changes,both", [&[0, 3], &[0, 2]], "ffff", 7, 1),
+        refused("changes,items=256,last", [&with_3, &rows_256], &cells_256, 7, 255),
+        refused("changes,rows=1", [&[0, 1], &[0]], "ffff", 15, 256),
+        refused("changes,rows=3", [&[0, 1], &[0, 0, 0]], "ffff", 15, 256),
+        refused("changes,columns=0", [&[], &[0]], "ff", 15, 256),
+        refused("changes,cells=1", [&[0, 1], &[0, 0]], "ff", 15, 256),
+        refused("changes,cells=3", [&[0, 1], &[0, 0]], "ffffff", 15, 256),
+        refused("changes,none,cells=1", [&[], &[]], "ff", 15, 256),
+        refused("changes,cells=1,column=3", [&[3, 0], &[2, 0]], "ff", 15, 256),
+        changed("changes,length=9,rows=1", "3 3 1", cut, [&[0, 1], &[0]], "ffff", format!("2 256 {cut}")),
+        changed("changes,k=4,length=9", "3 4 1", cut, [&[3], &[0]], "ff", format!("12 256 {cut}")),
+    ]
+}
+
 pub fn all() -> Vec<Number> {
     let bytes = |text| bytes_of(text).expect("the bytes are written rightly");
     let c1_shape = Shape { m: 3, k: 3, b: 1 };
@@ -237,6 +331,7 @@ pub fn all() -> Vec<Number> {
     ];
     list.extend(two_wrong());
     list.extend(changes());
+    list.extend(lists());
     let shapes = [
         ("m=2", [2, 1, 1], 1),
         ("m=9", [9, 1, 1], 1),

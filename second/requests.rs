@@ -12,6 +12,8 @@ pub enum Request {
     Rewrite(Shape, Vec<u8>, usize),
     /// The stripe, a column, a row, and the new cell.
     Change(Shape, Vec<u8>, usize, usize, Vec<u8>),
+    /// The stripe, the columns, the rows, and the new cells end to end.
+    Changes(Shape, Vec<u8>, Vec<usize>, Vec<usize>, Vec<u8>),
     Show(Shape, Map, Vec<u8>, Vec<u8>, usize),
     Mark(Map, usize, bool),
     Gaps(usize, Map),
@@ -37,6 +39,12 @@ fn field(bytes: &[u8]) -> String {
     if bytes.is_empty() { "-".to_string() } else { hex(bytes) }
 }
 
+/// A list for a field: numbers parted by commas, and an empty list is a dash.
+fn list(numbers: &[usize]) -> String {
+    if numbers.is_empty() { return "-".to_string(); }
+    numbers.iter().map(usize::to_string).collect::<Vec<String>>().join(",")
+}
+
 pub fn bytes_of(text: &str) -> Option<Vec<u8>> {
     if text == "-" { return Some(Vec::new()); }
     let digit = |c: u8| match c {
@@ -50,6 +58,11 @@ pub fn bytes_of(text: &str) -> Option<Vec<u8>> {
 
 fn number_of(text: &str) -> Option<usize> {
     if text.bytes().all(|c| c.is_ascii_digit()) { text.parse().ok() } else { None }
+}
+
+fn numbers_of(text: &str) -> Option<Vec<usize>> {
+    if text == "-" { return Some(Vec::new()); }
+    text.split(',').map(number_of).collect()
 }
 
 fn state_of(text: &str) -> Option<bool> {
@@ -89,6 +102,9 @@ impl fmt::Display for Request {
             Change(n, s, column, row, cell) => {
                 write!(f, "{word} {n} {} {column} {row} {}", field(s), field(cell))
             }
+            Changes(n, s, columns, rows, cells) => {
+                write!(f, "{word} {n} {} {} {} {}", field(s), list(columns), list(rows), field(cells))
+            }
             Restore(n, map, s, bench) => write!(f, "{word} {n} {map} {} {}", field(s), field(bench)),
             Show(n, map, s, bench, column) => {
                 write!(f, "{word} {n} {map} {} {} {column}", field(s), field(bench))
@@ -111,6 +127,7 @@ impl Request {
             Locate(..) => "locate",
             Rewrite(..) => "rewrite",
             Change(..) => "change",
+            Changes(..) => "changes",
             Show(..) => "show",
             Mark(..) => "mark",
             Gaps(..) => "gaps",
@@ -133,6 +150,10 @@ impl Request {
             ("change", 8) => {
                 let (column, row) = (number_of(parts[5])?, number_of(parts[6])?);
                 Change(shape()?, bytes_of(parts[4])?, column, row, bytes_of(parts[7])?)
+            }
+            ("changes", 8) => {
+                let (columns, rows) = (numbers_of(parts[5])?, numbers_of(parts[6])?);
+                Changes(shape()?, bytes_of(parts[4])?, columns, rows, bytes_of(parts[7])?)
             }
             ("restore", 7) => {
                 Restore(shape()?, map_of(parts[4])?, bytes_of(parts[5])?, bytes_of(parts[6])?)
@@ -180,6 +201,11 @@ impl Request {
                 let mut stripe = stripe.clone();
                 let done = change(*n, &mut stripe, *column, *row, cell);
                 format!("{} {}", done.number, field(&stripe))
+            }
+            Changes(n, stripe, columns, rows, cells) => {
+                let mut stripe = stripe.clone();
+                let done = changes(*n, &mut stripe, columns, rows, cells);
+                format!("{} {} {}", done.number, done.item, field(&stripe))
             }
             Show(n, map, stripe, bench, column) => {
                 let done = show(*n, map, stripe, bench, *column);

@@ -1,6 +1,6 @@
 //! Tests: the document's numbers, exhaustive searches on small stripes, and the generator's own knowledge.
 
-use crate::code::*;
+use crate::code::{self, *};
 use crate::generate::{BLANK_KINDS, IMAGE_KINDS, Maker, Random, fit};
 use crate::image;
 use crate::lies;
@@ -223,6 +223,33 @@ fn change_by_the_rules(shape: Shape, stripe: &[u8], column: usize, row: usize, n
         (0..b).for_each(|lane| after[cell * b + lane] ^= stripe[own * b + lane] ^ new[lane]);
     }
     (0, after)
+}
+
+/// The items of a list one at a time: the number and the item of the first that is refused, with the stripe as it was; or 0, 256
+/// and the stripe after the last.
+fn one_at_a_time(
+    shape: Shape, stripe: &[u8], columns: &[usize], rows: &[usize], cells: &[u8],
+    change: impl Fn(Shape, &[u8], usize, usize, &[u8]) -> (u8, Vec<u8>),
+) -> (u8, usize, Vec<u8>) {
+    let mut after = stripe.to_vec();
+    for (item, cell) in cells.chunks(shape.b).enumerate() {
+        match change(shape, &after, columns[item], rows[item], cell) {
+            (0, changed) => after = changed,
+            (number, _) => return (number, item, stripe.to_vec()),
+        }
+    }
+    (0, 256, after)
+}
+
+/// A list of changes by the rules: its number, the item, and the stripe afterwards.
+fn list_by_the_rules(shape: Shape, stripe: &[u8], columns: &[usize], rows: &[usize], cells: &[u8]) -> (u8, usize, Vec<u8>) {
+    let (count, bytes) = (columns.len(), columns.len().saturating_mul(shape.b));
+    let number = match plain_by_the_rules(shape, stripe) {
+        0 if count != rows.len() || bytes != cells.len() || count > 256 => 15,
+        number => number,
+    };
+    if number != 0 { return (number, 256, stripe.to_vec()); }
+    one_at_a_time(shape, stripe, columns, rows, cells, change_by_the_rules)
 }
 
 /// Finding and rewriting joined in one: its number, the column, and the stripe afterwards. A valid stripe stays, with
@@ -1008,6 +1035,252 @@ fn changes(test: &mut Test) {
     }
 }
 
+/// A change of this program: its number, and the stripe afterwards.
+fn changed(shape: Shape, stripe: &[u8], column: usize, row: usize, new: &[u8]) -> (u8, Vec<u8>) {
+    let mut after = stripe.to_vec();
+    (change(shape, &mut after, column, row, new).number, after)
+}
+
+/// A list of changes: its number, the item, and the stripe afterwards.
+fn listed(shape: Shape, stripe: &[u8], columns: &[usize], rows: &[usize], cells: &[u8]) -> (u8, usize, Vec<u8>) {
+    let mut after = stripe.to_vec();
+    let done = code::changes(shape, &mut after, columns, rows, cells);
+    (done.number, done.item, after)
+}
+
+/// All that is said of a list of changes, refused or not. Held against changes of this program one at a time where that is quick.
+fn one_list(test: &mut Test, shape: Shape, stripe: &[u8], columns: &[usize], rows: &[usize], cells: &[u8]) {
+    let Shape { m, k, b } = shape;
+    let start = |list: &[usize]| list[..list.len().min(20)].to_vec();
+    let about = || format!("list {shape}, {:?} {:?}, {:?}", start(columns), start(rows), &stripe[..stripe.len().min(60)]);
+    let (number, item, after) = listed(shape, stripe, columns, rows, cells);
+    test.same(about, (number, item, after.clone()), list_by_the_rules(shape, stripe, columns, rows, cells));
+    // 256 is no item, and an item is given with 7 and 11 only.
+    test.same(about, item != 256, [7, 11].contains(&number));
+    if number != 0 { test.same(about, &after[..], stripe); }
+    if ![0, 7, 11].contains(&number) { return; }
+    if columns.len() * stripe.len() < 30_000 {
+        let wanted = one_at_a_time(shape, stripe, columns, rows, cells, changed);
+        test.same(about, (number, item, after.clone()), wanted);
+    }
+    if number != 0 { return; }
+    // Every equation breaks by the same amount as before. The data is as the last item of each cell has it, and otherwise stays.
+    test.same(about, amounts_by_the_rules(shape, &after), amounts_by_the_rules(shape, stripe));
+    let mut edited = stripe.to_vec();
+    for place in 0..k * (m - 1) {
+        let last = (0..columns.len()).rev().find(|&item| columns[item] * (m - 1) + rows[item] == place);
+        if let Some(item) = last { edited[place * b..(place + 1) * b].copy_from_slice(&cells[item * b..(item + 1) * b]); }
+    }
+    let data = k * (m - 1) * b;
+    test.same(about, &after[..data], &edited[..data]);
+    // Of a valid stripe it is what an encode of the edited data gives; of any the counts of a check stay.
+    let (before, now) = (check(shape, stripe), check(shape, &after));
+    test.same(about, (now.number, now.rows, now.diagonals), (before.number, before.rows, before.diagonals));
+    if is_valid(shape, stripe) {
+        edited[data..].fill(0x5a);
+        encode(shape, &mut edited);
+        test.same(about, &after, &edited);
+    }
+}
+
+/// One bit to a cell, at m=3: every stripe, or one of five, and every list of at most two items that are not refused.
+fn every_bit_listed(test: &mut Test, k: usize) {
+    let shape = Shape { m: 3, k, b: 1 };
+    let length = shape.stripe_length();
+    let items: Vec<(usize, usize, u8)> = (0..4 * k).map(|n| (n / 4, n / 2 % 2, (n % 2) as u8)).collect();
+    let mut lists = vec![vec![]];
+    lists.extend(items.iter().map(|&item| vec![item]));
+    lists.extend(items.iter().flat_map(|&first| items.iter().map(move |&second| vec![first, second])));
+    for bits in (0..1usize << length).step_by(if k < 3 { 1 } else { 5 }) {
+        let stripe: Vec<u8> = (0..length).map(|c| (bits >> c & 1) as u8).collect();
+        for list in &lists {
+            let columns: Vec<usize> = list.iter().map(|item| item.0).collect();
+            let rows: Vec<usize> = list.iter().map(|item| item.1).collect();
+            let cells: Vec<u8> = list.iter().map(|item| item.2).collect();
+            let got = listed(shape, &stripe, &columns, &rows, &cells);
+            let wanted = one_at_a_time(shape, &stripe, &columns, &rows, &cells, changed);
+            test.same(|| format!("{list:?} in {shape}, {stripe:?}"), (got.0, got.1, &got.2), (0, 256, &wanted.2));
+        }
+    }
+}
+
+/// Every list of at most three items, each of them right, or refused for its column, its row or both; and few columns, rows and
+/// bytes, in every number of each.
+fn every_small_list(test: &mut Test, random: &mut Random) {
+    for (m, k, b) in [(3, 1, 2), (3, 3, 1), (5, 4, 3)] {
+        let shape = Shape { m, k, b };
+        let stripes = stripes_to_change(random, shape);
+        for count in 0..=3 {
+            for kinds in 0..4usize.pow(count) {
+                let stripe = &stripes[random.below(stripes.len())];
+                let mut some = |bit: usize, limit: usize| -> Vec<usize> {
+                    let value = |item: u32| match kinds / 4usize.pow(item) >> bit & 1 {
+                        0 => random.below(limit),
+                        _ => random.one_of(&[limit, limit + 1, MAX]),
+                    };
+                    (0..count).map(value).collect()
+                };
+                let (columns, rows) = (some(0, k), some(1, m - 1));
+                let cells = random.bytes(columns.len() * b);
+                one_list(test, shape, stripe, &columns, &rows, &cells);
+                let refused = columns.iter().zip(&rows).position(|(&column, &row)| column >= k || row >= m - 1);
+                let wanted = refused.map_or((0, 256), |item| (if columns[item] >= k { 7 } else { 11 }, item));
+                let (number, item, _) = listed(shape, stripe, &columns, &rows, &cells);
+                test.same(|| format!("list {shape} {columns:?} {rows:?}"), (number, item), wanted);
+            }
+        }
+        for (columns, rows) in (0..4).flat_map(|columns| (0..4).map(move |rows| (columns, rows))) {
+            for bytes in 0..=3 * b + 1 {
+                let (stripe, cells) = (&stripes[bytes % stripes.len()], random.bytes(bytes));
+                let (columns, rows) = (vec![k - 1; columns], vec![m - 2; rows]);
+                one_list(test, shape, stripe, &columns, &rows, &cells);
+                let agree = columns.len() == rows.len() && bytes == columns.len() * b;
+                let (number, item, _) = listed(shape, stripe, &columns, &rows, &cells);
+                let about = || format!("list {shape}, {} {} {bytes}", columns.len(), rows.len());
+                test.same(about, (number, item), (if agree { 0 } else { 15 }, 256));
+            }
+        }
+    }
+}
+
+/// Every set of faults, 15 in every way, and 7 and 11 of every item of three or of some of 256: the first in order is given, of
+/// items the first, and nothing changes.
+fn refused_lists(test: &mut Test) {
+    // How many columns, rows and bytes; the shape is 5 4 2 where it is not wrong.
+    const DISAGREEING: [[usize; 3]; 15] = [
+        [3, 2, 6], [2, 3, 6], [3, 4, 6], [4, 3, 6], [3, 0, 6], [0, 3, 6], [3, 3, 5], [3, 3, 7], [3, 3, 4], [3, 3, 8], [3, 3, 0],
+        [3, 3, 3], [257, 257, 514], [257, 256, 512], [512, 512, 1024],
+    ];
+    for faults in sets(&LIST_ORDER) {
+        let has = |number: u8| faults.contains(&number);
+        let of_no_item = first_of(&LIST_ORDER[..5], &faults);
+        let counts: &[[usize; 3]] = if has(15) { &DISAGREEING } else { &[[3, 3, 6], [256, 256, 512]] };
+        for (n, &[of_columns, of_rows, bytes]) in counts.iter().enumerate() {
+            let last = of_columns.max(of_rows) - 1;
+            let places = [0, last / 2, last];
+            for (x, y) in places.into_iter().flat_map(|x| places.map(|y| (x, y))) {
+                let spoilt = if n % 3 == 1 { [&faults[..], &[5]].concat() } else { faults.clone() };
+                let (shape, _, mut lent, ..) = with_faults(&spoilt);
+                if n % 3 == 2 { lent.fill(0); }
+                let mut columns: Vec<usize> = (0..of_columns).map(|item| item % 4).collect();
+                let mut rows: Vec<usize> = (0..of_rows).map(|item| item % 4).collect();
+                if let (true, Some(column)) = (has(7), columns.get_mut(x)) { *column = [4, 260, MAX][n % 3]; }
+                if let (true, Some(row)) = (has(11), rows.get_mut(y)) { *row = [4, 1 << 32, MAX][n % 3]; }
+                let wanted = match (has(7), has(11)) {
+                    _ if of_no_item != 0 => (of_no_item, 256),
+                    (true, true) if x <= y => (7, x),
+                    (true, false) => (7, x),
+                    (_, true) => (11, y),
+                    _ => (0, 256),
+                };
+                let cells = vec![0x77; bytes];
+                let (number, item, after) = listed(shape, &lent, &columns, &rows, &cells);
+                let about = || format!("list, faults {faults:?}, {of_columns} {of_rows} {bytes}, {x} {y}");
+                test.same(about, (number, item), wanted);
+                test.same(about, after == lent, number != 0);
+                test.same(about, list_by_the_rules(shape, &lent, &columns, &rows, &cells), (number, item, after));
+            }
+        }
+    }
+}
+
+/// The text of requests.
+fn text_of_lists(test: &mut Test) {
+    let c1 = numbers::C1;
+    for rest in [
+        format!("{c1} - - -"), format!("{c1} 1 0 05"), format!("{c1} 1,{MAX},0 {MAX},0 0102"), "- 1 - 00".to_string(),
+        format!("{c1} 0,0,0 - -"),
+    ] {
+        let line = format!("changes 3 3 1 {rest}");
+        let request = Request::parse(&line).expect("the request is written rightly");
+        test.same(|| "text".to_string(), &request.to_string(), &line);
+    }
+    for rest in [
+        "", "1", "1 0", "1 0 05 0", "1 0 5", "1, 0 05", ",1 0 05", "1,,1 0 05", "1 0,-1 05", "1 0,- 05", "-1 0 05", "1 0, 05",
+        "1;1 0,0 0505", "1,18446744073709551616 0,0 0505", "1 0 05,05", " 0 05", "1  05", "1 0 ",
+    ] {
+        let line = format!("changes 3 3 1 {c1} {rest}");
+        test.same(|| format!("malformed {line}"), Request::parse(&line).is_none(), true);
+    }
+}
+
+fn lists(test: &mut Test) {
+    let mut random = Random(41);
+    text_of_lists(test);
+    refused_lists(test);
+    for k in 1..=3 { every_bit_listed(test, k); }
+    every_small_list(test, &mut random);
+    let small = [(3, 1, 1), (3, 2, 2), (3, 3, 1), (5, 1, 3), (5, 3, 2), (5, 5, 1), (7, 4, 1), (7, 7, 2)];
+    let large = [(3, 3, 4096), (5, 3, 130), (11, 9, 130), (31, 31, 1), (127, 1, 1), (127, 127, 1)];
+    for (m, k, b) in small.into_iter().chain(large) {
+        let shape = Shape { m, k, b };
+        let stripes = stripes_to_change(&mut random, shape);
+        let is_small = m * b < 20;
+        let counts: &[usize] = if is_small { &[1, 2, 3, 17, 255, 256] } else { &[1, 2, 40] };
+        for stripe in &stripes[..if is_small { stripes.len() } else { 3 }] {
+            for &count in counts {
+                let columns: Vec<usize> = (0..count).map(|_| random.below(k)).collect();
+                let rows: Vec<usize> = (0..count).map(|_| random.below(m - 1)).collect();
+                let cells = random.bytes(count * b);
+                one_list(test, shape, stripe, &columns, &rows, &cells);
+                // On the diagonal of S every item, and all of them twice, the second time with what was there before.
+                if k == 1 || count > 128 { continue; }
+                let mut on_s: Vec<usize> = columns.iter().map(|&column| column.max(1)).collect();
+                let mut rows: Vec<usize> = on_s.iter().map(|&column| m - 1 - column).collect();
+                one_list(test, shape, stripe, &on_s, &rows, &cells);
+                let held = |item: usize| stripe[shape.cell_bytes(m - 1 - on_s[item], on_s[item])].to_vec();
+                let back = [cells, (0..count).flat_map(held).collect()].concat();
+                on_s.extend(on_s.clone());
+                rows.extend(rows.clone());
+                let about = || format!("there and back in {shape}, {count} on the diagonal of S");
+                test.same(about, listed(shape, stripe, &on_s, &rows, &back), (0, 256, stripe.clone()));
+            }
+        }
+        // Different cells give the same in both orders.
+        let all = k * (m - 1);
+        let named: Vec<usize> = (0..all.min(256)).collect();
+        let cells = random.bytes(named.len() * b);
+        let columns: Vec<usize> = named.iter().map(|cell| cell / (m - 1)).collect();
+        let rows: Vec<usize> = named.iter().map(|cell| cell % (m - 1)).collect();
+        let turned = |list: &[usize]| list.iter().rev().copied().collect::<Vec<usize>>();
+        let cells_turned: Vec<u8> = cells.chunks(b).rev().flatten().copied().collect();
+        for stripe in &stripes {
+            let forth = listed(shape, stripe, &columns, &rows, &cells);
+            let back = listed(shape, stripe, &turned(&columns), &turned(&rows), &cells_turned);
+            test.same(|| format!("{} cells of {shape} in both orders", named.len()), forth, back);
+        }
+    }
+    // A night's lines: each cell of the data gets one, in several lists, and at the end stands what an encode of all of them gives.
+    for (m, k, b, at_once) in [(5, 4, 3, 7), (7, 7, 16, 42), (23, 22, 1, 256)] {
+        let shape = Shape { m, k, b };
+        let log = random.bytes(k * (m - 1) * b);
+        let mut stripe = vec![0; shape.stripe_length()];
+        for (n, lines) in log.chunks(at_once * b).enumerate() {
+            let named = n * at_once..n * at_once + lines.len() / b;
+            let columns: Vec<usize> = named.clone().map(|cell| cell / (m - 1)).collect();
+            let rows: Vec<usize> = named.map(|cell| cell % (m - 1)).collect();
+            let done = code::changes(shape, &mut stripe, &columns, &rows, lines);
+            let about = || format!("lines {n} of {shape}");
+            test.same(about, (done.number, done.item, is_valid(shape, &stripe)), (0, 256, true));
+        }
+        let mut fresh = [&log[..], &vec![0; 2 * (m - 1) * b]].concat();
+        encode(shape, &mut fresh);
+        test.same(|| format!("log in {shape}"), stripe, fresh);
+    }
+    for seed in 1..=3 {
+        for case in Maker::new(seed).lists().take(260) {
+            if let Request::Changes(shape, stripe, columns, rows, cells) = &case.request {
+                let (number, item, after) = list_by_the_rules(*shape, stripe, columns, rows, cells);
+                let bytes = if after.is_empty() { "-".to_string() } else { hex(&after) };
+                let about = || format!("seed {seed} changes {shape}, {} {} {}", columns.len(), rows.len(), cells.len());
+                test.same(about, case.request.answer(), format!("{number} {item} {bytes}"));
+                test.same(about, Some(number), case.expected);
+                if shape.m < 30 && shape.b < 300 { one_list(test, *shape, stripe, columns, rows, cells); }
+            }
+        }
+    }
+}
+
 /// The columns that a text of `shelf` prints, without its first and last line.
 fn printed_columns(text: &str) -> Vec<&str> {
     let lines = text.lines().filter(|line| !line.starts_with("shape ") && !line.starts_with("answer "));
@@ -1032,14 +1305,14 @@ fn generated(test: &mut Test) {
                 test.same(|| format!("seed {seed} {head}"), &answer, &check_by_the_rules(*shape, stripe));
             }
             test.same(|| format!("seed {seed} {head}"), number, case.expected.unwrap_or(number));
-            // What is lent is the last field; after it a rewrite has one more, and a change three.
+            // What is lent is the last field; after it a rewrite has one more, and a change or a list of them three.
             let after = match request.word() {
                 "rewrite" => 1,
-                "change" => 3,
+                "change" | "changes" => 3,
                 _ => 0,
             };
             let lent = line.rsplit(' ').nth(after);
-            if number != FINE && ["encode", "restore", "rewrite", "change", "read"].contains(&request.word()) {
+            if number != FINE && ["encode", "restore", "rewrite", "change", "changes", "read"].contains(&request.word()) {
                 test.same(|| format!("seed {seed} refused, buffer {head}"), answer.rsplit(' ').next(), lent);
             }
             if let (Request::Locate(shape, stripe) | Request::Check(shape, stripe), FINE) = (&request, number) {
@@ -1125,6 +1398,7 @@ const PLAIN_ORDER: [u8; 4] = [1, 12, 13, 2];
 const LOCATE_ORDER: [u8; 5] = [1, 12, 13, 2, 6];
 const REWRITE_ORDER: [u8; 6] = [1, 12, 13, 2, 7, 5];
 const CHANGE_ORDER: [u8; 7] = [1, 12, 13, 2, 7, 11, 14];
+const LIST_ORDER: [u8; 7] = [1, 12, 13, 2, 15, 7, 11];
 
 /// How many places are present and which is the highest, place by place.
 fn by_the_places(places: &[bool; 129]) -> (usize, usize) {
@@ -1455,7 +1729,7 @@ fn maps(test: &mut Test) {
 }
 
 pub fn run(out: &mut impl Write) -> io::Result<bool> {
-    let groups: [(&str, fn(&mut Test)); 12] = [
+    let groups: [(&str, fn(&mut Test)); 13] = [
         ("document", document),
         ("shapes", shapes),
         ("lengths", lengths),
@@ -1463,6 +1737,7 @@ pub fn run(out: &mut impl Write) -> io::Result<bool> {
         ("blank", blank),
         ("two wrong", two_wrong),
         ("changes", changes),
+        ("lists", lists),
         ("ranks", ranks),
         ("images", images),
         ("maps", maps),

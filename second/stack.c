@@ -8,8 +8,8 @@
 
    The calls are made at shapes, and with columns absent or wrong or all bytes zero, that take every way through the library: cells on
    both sides of 128 bytes, columns on both sides of 1,024 bytes, stripes on both sides of 256 KiB, few columns and many, up to the largest
-   stripe. Cells are changed on the diagonal of S and off it. Each call must answer the number that the rules give, and check and locate
-   must find what the rules say of the stripe.
+   stripe. Cells are changed on the diagonal of S and off it, one at a time and in lists of none, one and 256. Each call must answer the
+   number that the rules give, check and locate must find what the rules say of the stripe, and a list's item must be the one refused.
 
    It prints a line for each call: the most bytes, and the first shape and case that took them. With a LIMIT it fails if they are more
    than LIMIT for any call; otherwise the calls at some of the shapes are then made again, each in a thread of 128 KiB. */
@@ -23,12 +23,14 @@
 #include <unistd.h>
 #include "../include/oarwillow.h"
 
-enum { STACK = 256 << 10, THREAD = 128 << 10, COLUMNS = 129, LONGEST = 126 * 4096, NONE = 129 };
-enum call { HARNESS, ENCODE, CHECK, RESTORE, LOCATE, REWRITE, CHANGE, SHOW, CONTENTS, READ, GAPS, STRIPE_LENGTH, BENCH_LENGTH, CALLS };
+enum { STACK = 256 << 10, THREAD = 128 << 10, COLUMNS = 129, LONGEST = 126 * 4096, NONE = 129, ITEMS = 256, NO_ITEM = 256 };
+enum call {
+    HARNESS, ENCODE, CHECK, RESTORE, LOCATE, REWRITE, CHANGE, CHANGES, SHOW, CONTENTS, READ, GAPS, STRIPE_LENGTH, BENCH_LENGTH, CALLS
+};
 static const char *const names[CALLS] = {
-    "harness",           "oarwillow_encode",        "oarwillow_check",       "oarwillow_restore",  "oarwillow_locate",
-    "oarwillow_rewrite", "oarwillow_change",        "oarwillow_show",        "oarwillow_contents", "oarwillow_read",
-    "oarwillow_gaps",    "oarwillow_stripe_length", "oarwillow_bench_length"};
+    "harness",           "oarwillow_encode", "oarwillow_check",         "oarwillow_restore",     "oarwillow_locate",
+    "oarwillow_rewrite", "oarwillow_change", "oarwillow_changes",       "oarwillow_show",        "oarwillow_contents",
+    "oarwillow_read",    "oarwillow_gaps",   "oarwillow_stripe_length", "oarwillow_bench_length"};
 
 /* A case: a call, what it is given, and the number that it must answer, or the length. */
 struct given {
@@ -36,6 +38,8 @@ struct given {
     const char *words;
     size_t m, k, b, column, row;
     size_t stripe_len, bench_len, image_len, cell_len;
+    size_t columns_len, rows_len, cells_len; /* of a list of changes */
+    size_t item;                             /* the one that it must say is refused */
     size_t changed[3]; /* places: a column's is made absent, another present */
     size_t wrong[2];   /* columns: the first is wrong in row 0 and lane 0, the second in row 1 */
     size_t lane;       /* and in this lane */
@@ -45,8 +49,8 @@ struct given {
 static struct given asked, worst[CALLS];
 static size_t most[CALLS], cases;
 
-static uint8_t *stripe, *zeros, *bench, *image, cell[4097], places[129];
-static size_t results[5];
+static uint8_t *stripe, *zeros, *bench, *image, *cells, cell[4097], places[129];
+static size_t columns[ITEMS + 1], rows[ITEMS + 1], results[5];
 static uint8_t found;
 static unsigned answer;
 
@@ -80,6 +84,10 @@ static void perform(void)
         break;
     case CHANGE:
         answer = oarwillow_change(g->m, g->k, g->b, stripe, g->stripe_len, g->column, g->row, cell, g->cell_len);
+        break;
+    case CHANGES:
+        answer = oarwillow_changes(g->m, g->k, g->b, stripe, g->stripe_len, columns, g->columns_len, rows, g->rows_len, cells,
+                                   g->cells_len, r);
         break;
     case SHOW:
         answer = oarwillow_show(g->m, g->k, g->b, places, stripe, g->stripe_len, bench, g->bench_len, g->column, r, r + 1, r + 2);
@@ -185,6 +193,7 @@ static void ask(enum call call, const char *words, unsigned number)
     asked.stripe_len = (k + 2) * column_length();
     asked.bench_len = 2 * column_length();
     asked.cell_len = b;
+    asked.item = NO_ITEM;
     for (size_t i = 0; i < 3; i++)
         asked.changed[i] = NONE;
     for (size_t i = 0; i < 2; i++)
@@ -212,8 +221,8 @@ static unsigned to_be_found(void)
     return asked.call == CHECK ? OARWILLOW_FOUND_BROKEN : OARWILLOW_FOUND_COLUMN;
 }
 
-/* Makes the call. The stripe is a valid one before and afterwards: a rewrite that is not refused makes it so, and after a change the
-   columns are wrong as they were before. */
+/* Makes the call. The stripe is a valid one before and afterwards: a rewrite that is not refused makes it so, and after a change or a
+   list of them the columns are wrong as they were before. */
 static void measure(void)
 {
     size_t bytes;
@@ -224,12 +233,15 @@ static void measure(void)
             places[asked.changed[i]] ^= 1;
     spoil();
     found = 77;
+    results[0] = 77;
     run();
     bytes = written();
     if (answer != asked.number)
         die("another answer than the rules give");
     if ((asked.call == CHECK || asked.call == LOCATE) && found != to_be_found())
         die("something else found than the rules say");
+    if (asked.call == CHANGES && results[0] != asked.item)
+        die("another item than the rules give");
     if (asked.call != REWRITE || answer != 0)
         spoil();
     if (most[asked.call] < bytes) {
@@ -276,6 +288,37 @@ static void with_cell(const char *words, size_t column, size_t row, size_t wrong
     asked.row = row;
     asked.wrong[0] = wrong;
     memset(cell, (int)(stripe[column * column_length() + row * asked.b] ^ 0x5a), asked.cell_len);
+    measure();
+}
+
+/* A list of so many changes, of every data column; of 16 items one is on the diagonal of S, if there is one with so many columns. Two
+   items of a cell have other bytes. */
+static void list(const char *words, size_t items, unsigned number)
+{
+    ask(CHANGES, words, number);
+    asked.columns_len = asked.rows_len = items;
+    asked.cells_len = items * asked.b;
+    for (size_t n = 0; n < items; n++) {
+        columns[n] = n % asked.k;
+        rows[n] = n % 16 == 1 && columns[n] > 0 ? asked.m - 1 - columns[n] : n % (asked.m - 1);
+        memset(cells + n * asked.b, (int)(stripe[columns[n] * column_length() + rows[n] * asked.b] ^ (0x5a + n)), asked.b);
+    }
+}
+
+/* Makes so many changes, of a stripe with a column wrong or none. */
+static void with_items(const char *words, size_t items, size_t wrong)
+{
+    list(words, items, 0);
+    asked.wrong[0] = wrong;
+    measure();
+}
+
+/* A list of so many changes, one of which is refused for its column or for its row. */
+static void with_bad_item(const char *words, size_t items, size_t item, unsigned number)
+{
+    list(words, items, number);
+    *(number == 7 ? &columns[item] : &rows[item]) = number == 7 ? asked.k : asked.m - 1;
+    asked.item = item;
     measure();
 }
 
@@ -395,6 +438,17 @@ static void at_shape(size_t m, size_t k, size_t b)
     }
     with_wrong(CHECK, "changed", NONE, NONE, 0, 0);
 
+    with_items("no items", 0, NONE);
+    with_items("one item", 1, NONE);
+    with_items("256 items", ITEMS, NONE);
+    with_items("256 items, a data column wrong", ITEMS, 0);
+    with_items("256 items, D wrong", ITEMS, d);
+    with_bad_item("the last of 256 has no column", ITEMS, ITEMS - 1, 7);
+    with_bad_item("the last of 256 has no row", ITEMS, ITEMS - 1, 11);
+    list("257 items", ITEMS + 1, 15);
+    measure();
+    with_wrong(CHECK, "changed by lists", NONE, NONE, 0, 0);
+
     with_map(SHOW, "present", NONE, NONE, NONE, NONE, 0);
     with_map(SHOW, "restored", 0, d, NONE, NONE, 0);
     with_map(SHOW, "three absent", 0, h, d, NONE, 4);
@@ -414,7 +468,7 @@ static void at_shape(size_t m, size_t k, size_t b)
     measure();
 }
 
-/* What is refused for a number, a length, a place or a cell. */
+/* What is refused for a number, a length, a place, a cell or a list. */
 static void refusals(void)
 {
     static const size_t faults[][4] = {{9, 3, 16, 1}, {5, 6, 16, 12}, {5, 3, 4097, 13}};
@@ -437,6 +491,8 @@ static void refusals(void)
         with_map(call, "a place too many", 128, NONE, NONE, NONE, 9);
     }
     for (enum call call = REWRITE; call <= SHOW; call++) {
+        if (call == CHANGES)
+            continue;
         ask(call, "no such column", 7);
         asked.column = 5;
         measure();
@@ -452,6 +508,26 @@ static void refusals(void)
         asked.cell_len = length;
         measure();
     }
+    for (size_t item = 0; item < 3; item++) {
+        with_bad_item("an item has no column", 3, item, 7);
+        with_bad_item("an item has no row", 3, item, 11);
+    }
+    for (size_t length = 2; length <= 4; length += 2) {
+        list("lists of other counts", 3, 15);
+        asked.rows_len = length;
+        measure();
+        list("bytes for other counts", 3, 15);
+        asked.cells_len = length * 16;
+        measure();
+    }
+    for (size_t length = 47; length <= 49; length += 2) {
+        list("bytes for no count", 3, 15);
+        asked.cells_len = length;
+        measure();
+    }
+    list("bytes alone", 0, 15);
+    asked.cells_len = 16;
+    measure();
     for (enum call call = CONTENTS; call <= READ; call++) {
         ask(call, "no image", 8);
         measure();
@@ -474,7 +550,8 @@ int main(int count, char **words)
     image = malloc(8 + 8 * COLUMNS + COLUMNS * (size_t)LONGEST + 1);
     bench = malloc(2 * LONGEST);
     zeros = calloc(COLUMNS, LONGEST);
-    if (!stripe || !image || !bench || !zeros)
+    cells = malloc((ITEMS + 1) * 4096);
+    if (!stripe || !image || !bench || !zeros || !cells)
         die("no memory");
     memset(stripe, 1, COLUMNS * (size_t)LONGEST);
     memcpy(image, stripe, COLUMNS * (size_t)LONGEST);

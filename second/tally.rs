@@ -2,21 +2,23 @@
 
 use crate::code::*;
 use crate::generate::{
-    AT_MOST_ONE, BAD_B, BAD_K, BAD_M, CHANGE_ORDER, CHANGE_WAYS, CHANGED_CELLS, CHANGED_STRIPES, EXTENTS, FAR, GAP_KS,
-    HEADER_ORDER, NEW_CELLS, PATTERNS, PLAIN_ORDER, RESTORE_ORDER, REWRITE_ORDER, SHOW_ORDER, SIZES, extent, together,
+    AT_MOST_ONE, BAD_B, BAD_K, BAD_M, CHANGE_ORDER, CHANGE_WAYS, CHANGED_CELLS, CHANGED_STRIPES, ENDINGS, EXTENTS, FAR, GAP_KS,
+    HEADER_ORDER, ITEM_PAIRS, ITEM_PLACES, ITEM_WAYS, LIST_COUNTS, LIST_ORDER, LIST_WAYS, NEW_CELLS, PATTERNS, PLAIN_ORDER,
+    RESTORE_ORDER, REWRITE_ORDER, SHOW_ORDER, SIZES, TIMES, extent, together,
 };
 use crate::image;
 use crate::requests::Request;
 use std::collections::BTreeMap;
 use std::io::{self, BufRead, Write};
 
-const ANSWERS: [(&str, &[u8]); 11] = [
+const ANSWERS: [(&str, &[u8]); 12] = [
     ("encode", &[0, 1, 2, 12, 13]),
     ("check", &[0, 1, 2, 12, 13]),
     ("restore", &[0, 1, 2, 3, 4, 5, 9, 12, 13]),
     ("locate", &[0, 1, 2, 6, 12, 13]),
     ("rewrite", &[0, 1, 2, 5, 7, 12, 13]),
     ("change", &[0, 1, 2, 7, 11, 12, 13, 14]),
+    ("changes", &[0, 1, 2, 7, 11, 12, 13, 15]),
     ("show", &[0, 1, 2, 3, 4, 7, 9, 12, 13]),
     ("mark", &[0, 7]),
     ("gaps", &[0]),
@@ -25,13 +27,14 @@ const ANSWERS: [(&str, &[u8]); 11] = [
 ];
 
 /// The orders in which faults met together are judged.
-const ORDERS: [(&str, &[u8]); 9] = [
+const ORDERS: [(&str, &[u8]); 10] = [
     ("encode", &PLAIN_ORDER),
     ("check", &PLAIN_ORDER),
     ("locate", &PLAIN_ORDER),
     ("restore", &RESTORE_ORDER),
     ("rewrite", &REWRITE_ORDER),
     ("change", &CHANGE_ORDER),
+    ("changes", &LIST_ORDER),
     ("show", &SHOW_ORDER),
     ("read", &HEADER_ORDER),
     ("contents", &HEADER_ORDER),
@@ -114,6 +117,54 @@ fn change_faults_alone() -> Vec<String> {
     cells
 }
 
+/// Of a list of changes that is done, beside its count and the cells that it names several times. With `nothing new` every item
+/// has what its cell holds. A broken stripe has a row or a diagonal broken in which a cell of the list is, or only others.
+const LISTS: [&str; 14] = [
+    "every cell", "nothing new, valid", "nothing new, broken", "nothing new, zero", "k=1", "k=m", "b=1, 1 items",
+    "b=1, 256 items", "b=4096", "m=k=127, 256 items", "m=k=127, often on S", "broken, own row", "broken, own diagonal",
+    "broken, others only",
+];
+
+/// Lists of each count with each kind of shape and of stripe; cells named twice and three times, with each ending in each kind of
+/// stripe; and lists with eight items or more on the diagonal of S.
+fn list_kinds() -> Vec<String> {
+    let kinds: Vec<&str> = EXTENTS.into_iter().chain(CHANGED_STRIPES).collect();
+    let counts = LIST_COUNTS.iter().flat_map(|count| kinds.iter().map(move |kind| format!("changes {count} items, {kind}")));
+    let on_s = kinds.iter().map(|kind| format!("changes often on S, {kind}"));
+    let mut cells: Vec<String> = counts.chain(on_s).collect();
+    for (times, _) in TIMES {
+        let endings = ENDINGS.iter().flat_map(|ending| CHANGED_STRIPES.map(|stripe| format!("{ending}, {stripe}")));
+        let others = EXTENTS.into_iter().chain(["on S", "off S", "next", "apart"]).map(str::to_string);
+        cells.extend(endings.chain(others).map(|kind| format!("changes {times}, {kind}")));
+    }
+    cells
+}
+
+/// The ways in which one fault of a list is made alone: with each kind of shape, and of stripe where that is not refused for its
+/// length, and with the shortest and the longest cells; of an item also in each place, in a list of one and of 256, and with as
+/// many columns as there can be. Then two items that are refused, or one for both its numbers.
+fn list_faults() -> Vec<String> {
+    let mut cells: Vec<String> = [1, 12, 13].map(|number| format!("changes {number} alone")).to_vec();
+    for number in [BAD_STRIPE, BAD_LISTS, BAD_NUMBER, BAD_ROW] {
+        let stripes = CHANGED_STRIPES.into_iter().filter(|_| number != BAD_STRIPE);
+        cells.extend(stripes.chain(["b=1", "b=4096"]).map(|kind| format!("changes {number} alone, {kind}")));
+    }
+    cells.extend(EXTENTS.map(|kind| format!("changes {BAD_STRIPE} alone, {kind}")));
+    for way in LIST_WAYS { cells.extend(EXTENTS.map(|kind| format!("changes {BAD_LISTS} alone, {way}, {kind}"))); }
+    for (number, ways) in ITEM_WAYS {
+        for kind in ITEM_PLACES.into_iter().chain(EXTENTS) {
+            cells.extend(ways.iter().map(|way| format!("changes {number} alone, {way}, {kind}")));
+        }
+        for place in ITEM_PLACES {
+            let kinds = EXTENTS.into_iter().chain(["256 items"]);
+            cells.extend(kinds.map(|kind| format!("changes {number} alone, {place}, {kind}")));
+        }
+        cells.extend(["1 items", "m=k=127"].map(|kind| format!("changes {number} alone, {kind}")));
+    }
+    for pair in ITEM_PAIRS { cells.extend(EXTENTS.map(|kind| format!("changes {pair}, {kind}"))); }
+    cells
+}
+
 /// Of a request for gaps beside its k, where that is one of the named.
 const GAPS: [&str; 15] = [
     "k ordinary", "k large",
@@ -159,6 +210,9 @@ fn expected_cells() -> Vec<String> {
         cells.extend(CHANGED_CELLS.iter().map(|cell| format!("change {cell}, b={b}")));
     }
     cells.extend(change_faults_alone());
+    cells.extend(LISTS.iter().map(|name| format!("changes {name}")));
+    cells.extend(list_kinds());
+    cells.extend(list_faults());
     cells.extend(BAD_M.iter().map(|m| format!("refused m={m}")));
     cells.extend(BAD_K.iter().map(|k| format!("refused k={k}")));
     cells.extend(BAD_B.iter().map(|b| format!("refused b={b}")));
@@ -256,6 +310,20 @@ fn faults_of_change(shape: Shape, stripe: &[u8], column: usize, row: usize, cell
         (BAD_NUMBER, column >= k),
         (BAD_ROW, row >= m.saturating_sub(1)),
         (BAD_CELL, cell.len() != b),
+    ];
+    holding(shape_faults(shape).into_iter().chain(others))
+}
+
+/// Every fault of a list of changes, each judged for itself; those of items, if some item bears them.
+fn faults_of_list(shape: Shape, stripe: &[u8], columns: &[usize], rows: &[usize], cells: &[u8]) -> Vec<u8> {
+    let Shape { m, k, b } = shape;
+    let length = k.wrapping_add(2).wrapping_mul(m.wrapping_sub(1)).wrapping_mul(b);
+    let count = columns.len();
+    let others = [
+        (BAD_STRIPE, stripe.len() != length),
+        (BAD_LISTS, rows.len() != count || count > MOST_ITEMS || cells.len() != count.wrapping_mul(b)),
+        (BAD_NUMBER, columns.iter().any(|&column| column >= k)),
+        (BAD_ROW, rows.iter().any(|&row| row >= m.saturating_sub(1))),
     ];
     holding(shape_faults(shape).into_iter().chain(others))
 }
@@ -589,6 +657,142 @@ impl Tally {
         if number != BAD_STRIPE { self.add(format!("change {number} alone, {}", kind_of_stripe(shape, stripe))); }
     }
 
+    /// The kinds of a list of changes that is done.
+    fn listed(&mut self, shape: Shape, stripe: &[u8], named: &[(usize, usize)], cells: &[u8]) {
+        let Shape { m, k, b } = shape;
+        let (count, stripe_kind) = (named.len(), kind_of_stripe(shape, stripe));
+        let exact = count.to_string();
+        let name = match LIST_COUNTS.contains(&&exact[..]) {
+            true => Some(&exact[..]),
+            false if (8..=40).contains(&count) => Some("some"),
+            false => None,
+        };
+        let on_s = |(column, row): (usize, usize)| column + row == m - 1;
+        let often = named.iter().filter(|&&cell| on_s(cell)).count() >= 8;
+        for kind in [extent(shape), stripe_kind] {
+            if let Some(name) = name { self.add(format!("changes {name} items, {kind}")); }
+            if often { self.add(format!("changes often on S, {kind}")); }
+        }
+        let mut met = Vec::new();
+        let mut items: BTreeMap<(usize, usize), Vec<usize>> = BTreeMap::new();
+        for (item, &cell) in named.iter().enumerate() { items.entry(cell).or_default().push(item); }
+        let held = |(column, row): (usize, usize)| &stripe[shape.cell_bytes(row, column)];
+        let new = |item: usize| &cells[item * b..(item + 1) * b];
+        for (&cell, items) in &items {
+            let Some((times, _)) = TIMES.into_iter().find(|(_, times)| *times == items.len()) else { continue };
+            let (first, last) = (items[0], items[items.len() - 1]);
+            if new(first) == held(cell) { continue; }
+            let ending = match new(last) {
+                end if end == held(cell) => "held",
+                end if end == new(first) => "first",
+                _ => "another",
+            };
+            let next = if last - first + 1 == items.len() { "next" } else { "apart" };
+            let s = if on_s(cell) { "on S" } else { "off S" };
+            met.extend([extent(shape), s, next].map(|kind| format!("{times}, {kind}")));
+            met.push(format!("{times}, {ending}, {stripe_kind}"));
+        }
+        if items.len() == k * (m - 1) { met.push("every cell".to_string()); }
+        let nothing_new = (0..count).all(|item| new(item) == held(named[item]));
+        if count > 0 && nothing_new { met.push(format!("nothing new, {stripe_kind}")); }
+        if k == 1 { met.push("k=1".to_string()); }
+        if k == m { met.push("k=m".to_string()); }
+        if b == 1 && (count == 1 || count == MOST_ITEMS) { met.push(format!("b=1, {count} items")); }
+        if b == 4096 { met.push("b=4096".to_string()); }
+        if k == 127 {
+            met.push(format!("m=k=127, {count} items"));
+            if often { met.push("m=k=127, often on S".to_string()); }
+        }
+        if stripe_kind == "broken" {
+            let mut fitting = stripe.to_vec();
+            encode(shape, &mut fitting);
+            let breaks = |column: usize, row: usize| {
+                let cell = shape.cell_bytes(row, column);
+                fitting[cell.clone()] != stripe[cell]
+            };
+            let own_row = items.keys().any(|&(_, row)| breaks(k, row));
+            let is_on = |cell: (usize, usize), i: usize| on_s(cell) || i == (cell.0 + cell.1) % m;
+            let own_diagonal = items.keys().any(|&cell| (0..m - 1).any(|i| is_on(cell, i) && breaks(k + 1, i)));
+            if own_row { met.push("broken, own row".to_string()); }
+            if own_diagonal { met.push("broken, own diagonal".to_string()); }
+            if count > 0 && !own_row && !own_diagonal { met.push("broken, others only".to_string()); }
+        }
+        met.into_iter().for_each(|kind| self.add(format!("changes {kind}")));
+    }
+
+    /// The ways in which a list of changes bears this one fault, which is none of its items'.
+    fn refused_list(&mut self, shape: Shape, stripe: &[u8], columns: &[usize], rows: &[usize], cells: &[u8], number: u8) {
+        if [WRONG_M, WRONG_K, WRONG_B].contains(&number) { return self.add(format!("changes {number} alone")); }
+        let b = shape.b;
+        let (of_columns, of_rows, bytes) = (columns.len(), rows.len(), cells.len());
+        let (for_columns, for_rows) = (of_columns * b, of_rows * b);
+        let equal = of_columns == of_rows;
+        let met = [
+            of_columns == of_rows + 1 && bytes == for_rows,
+            of_columns + 1 == of_rows && bytes == for_rows,
+            of_rows == of_columns + 1 && bytes == for_columns,
+            of_rows + 1 == of_columns && bytes == for_columns,
+            of_columns == 0 && of_rows > 0 && bytes == for_rows,
+            of_rows == 0 && of_columns > 0 && bytes == for_columns,
+            equal && bytes == for_columns + 1,
+            equal && bytes + 1 == for_columns,
+            equal && bytes == for_columns + b,
+            equal && bytes + b == for_columns,
+            equal && of_columns > 0 && bytes == 0,
+            equal && of_columns == 0,
+            equal && of_columns == MOST_ITEMS + 1 && bytes == for_columns,
+            equal && of_columns > MOST_ITEMS + 1 && bytes == for_columns,
+        ];
+        if number == BAD_STRIPE { self.add(format!("changes {number} alone, {}", extent(shape))); }
+        if number == BAD_LISTS {
+            for way in holding(LIST_WAYS.into_iter().zip(met)) {
+                self.add(format!("changes {number} alone, {way}, {}", extent(shape)));
+            }
+            self.add(format!("changes {number} alone, {}", kind_of_stripe(shape, stripe)));
+        }
+        if b == 1 || b == 4096 { self.add(format!("changes {number} alone, b={b}")); }
+    }
+
+    /// The ways in which items of a list are refused that has no other fault.
+    fn refused_items(&mut self, shape: Shape, stripe: &[u8], named: &[(usize, usize)]) {
+        let Shape { m, k, b } = shape;
+        let faults = |&(column, row): &(usize, usize)| holding([(BAD_NUMBER, column >= k), (BAD_ROW, row >= m - 1)]);
+        let bad: Vec<(usize, Vec<u8>)> = named.iter().map(faults).enumerate().filter(|(_, faults)| !faults.is_empty()).collect();
+        let first = &bad[0].1;
+        let later: Vec<u8> = bad[1..].iter().flat_map(|(_, faults)| faults.iter().copied()).collect();
+        for pair in ITEM_PAIRS {
+            let is = |number: &u8, name: &str| number.to_string() == name;
+            let met = match pair.split_once(" then ") {
+                Some((x, y)) => first.len() == 1 && is(&first[0], x) && later.iter().any(|number| is(number, y)),
+                None => first.len() == 2,
+            };
+            if met { self.add(format!("changes {pair}, {}", extent(shape))); }
+        }
+        if first.len() > 1 || !later.is_empty() { return; }
+        let ((item, number), (count, max)) = ((bad[0].0, first[0]), (named.len(), usize::MAX));
+        let (value, limit) = if number == BAD_NUMBER { (named[item].0, k) } else { (named[item].1, m - 1) };
+        let above = |n: usize| (FAR[n]..FAR[n] + limit).contains(&value);
+        let common = [value == 129, above(0), above(1), above(2), value == max];
+        let near: Vec<bool> = (0..if number == BAD_NUMBER { 3 } else { 2 }).map(|more| value == limit + more).collect();
+        let (_, ways) = ITEM_WAYS.into_iter().find(|(other, _)| *other == number).expect("a fault of an item");
+        let ways = holding(ways.iter().copied().zip(near.into_iter().chain(common)));
+        let place = ITEM_PLACES[if item == 0 { 0 } else if item + 1 < count { 1 } else { 2 }];
+        let mut met: Vec<String> = Vec::new();
+        // An only item is in no place.
+        if count > 1 {
+            met.extend(ways.iter().map(|way| format!("{way}, {place}")));
+            met.push(format!("{place}, {}", extent(shape)));
+            if count == MOST_ITEMS { met.push(format!("{place}, 256 items")); }
+        } else {
+            met.push("1 items".to_string());
+        }
+        met.extend(ways.iter().map(|way| format!("{way}, {}", extent(shape))));
+        met.push(kind_of_stripe(shape, stripe).to_string());
+        if b == 1 || b == 4096 { met.push(format!("b={b}")); }
+        if k == 127 { met.push("m=k=127".to_string()); }
+        met.into_iter().for_each(|kind| self.add(format!("changes {number} alone, {kind}")));
+    }
+
     fn count(&mut self, request: &Request) {
         // It is not refused: its answer begins with a length.
         if let Request::Lengths(shape) = request { return self.lengths(*shape); }
@@ -616,6 +820,18 @@ impl Tally {
                 match faults[..] {
                     [] => self.changed(*shape, stripe, *column, *row, new),
                     [number] => self.refused_change(*shape, stripe, *column, *row, new, number),
+                    _ => {}
+                }
+            }
+            Request::Changes(shape, stripe, columns, rows, cells) => {
+                self.shape(*shape);
+                let faults = faults_of_list(*shape, stripe, columns, rows, cells);
+                self.add_faults("changes", &LIST_ORDER, &faults);
+                let named: Vec<(usize, usize)> = columns.iter().copied().zip(rows.iter().copied()).collect();
+                match faults[..] {
+                    [] => self.listed(*shape, stripe, &named, cells),
+                    [BAD_NUMBER] | [BAD_ROW] | [BAD_NUMBER, BAD_ROW] => self.refused_items(*shape, stripe, &named),
+                    [number] => self.refused_list(*shape, stripe, columns, rows, cells, number),
                     _ => {}
                 }
             }

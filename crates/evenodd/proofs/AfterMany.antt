@@ -12,7 +12,7 @@ use native.Mathlib.Decide.{ℕ-discrete, decLt}
 use native.Mathlib.Omega.{arith}
 use lib.ListN.{length, getD, List·getD-eq-default}
 use Rattle.parity.specs.Shape.{Shape, stripeLength}
-use Rattle.parity.specs.Stripe.{byte, Stripe, Valid}
+use Rattle.parity.specs.Stripe.{byte, Stripe}
 use Rattle.parity.specs.Change.{SameAmounts, newCell, InOrder}
 use Rattle.parity.proofs.Change.{by-cell, data-stays, same-data-amounts, amounts-back, amounts-both, valid-amounts, amounts-valid}
 use Rattle.parity.proofs.Columns.{same-column}
@@ -20,7 +20,7 @@ use Rattle.parity.proofs.InOrder.{new-size, new-at, order-one, kept-along}
 use Rattle.refusals.specs.declared.Refusal.{Refusal}
 use Rattle.refusals.specs.declared.Refusal.the-variants.{NoSuchColumn, NoSuchRow, WrongLists}
 use Rattle.refusals.specs.Refusals.{pass, refuse, Rule, Gives, FirstRefused}
-use Rattle.refusals.proofs.Rules.{passes-not, refuse-one, gives-one, gives-first, gives-after, gives-passed, gives-rest}
+use Rattle.refusals.proofs.Rules.{passes-not, refuse-one, gives-one, gives-first, gives-after, gives-rest}
 use Rattle.inputs.specs.Rules.{wrongLists, stripeRules, listRules}
 use Rattle.inputs.proofs.Stripe.{stripe-passed, stripe-given}
 use Rattle.inputs.proofs.CellLists.{Lists, lists-given, lists-passed}
@@ -31,7 +31,7 @@ use Rattle.evenodd.specs.declared.one_cell.Changed.the-variants as chang
 use Rattle.evenodd.specs.declared.many_cells.ChangedAll.{ChangedAll}
 use Rattle.evenodd.specs.declared.many_cells.ChangedAll.the-variants as changedAll
 use Rattle.evenodd.specs.Encodes.{Encodes}
-use Rattle.evenodd.specs.Changes.{verdictOf, cellRules, changeRules, Changes}
+use Rattle.evenodd.specs.Changes.{verdictOf, cellRules, Changes}
 use Rattle.evenodd.specs.ChangesAll.{rulesOf, ItemChanged, ChangesAll}
 use Rattle.evenodd.specs.Determined.{ChangesOne}
 use Rattle.evenodd.specs.EndToEnd.{Edited, ManyAsOneByOne, ItemAsChange, SevenOrEleven, NothingToChange, LastValueStands, ManyAsEncode, ManyKeepBroken}

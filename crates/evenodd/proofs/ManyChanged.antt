@@ -7,7 +7,6 @@
 use mathlib.Core.Path.{_≡_, refl, _∙_}
 use mathlib.Core.List.{List, [], _∷_, _++_}
 use Prim.Native.Nat.{ℕ, _-_, _<_}
-use native.Mathlib.Omega.{arith}
 use lib.ListN.{length, getD}
 use Rattle.parity.specs.Shape.{Shape, stripeLength}
 use Rattle.parity.specs.Change.{newCell, CellChanged, CellsChanged}

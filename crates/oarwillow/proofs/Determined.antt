@@ -7,21 +7,26 @@ use Prim.Native.Nat.{ℕ, _+_}
 use native.Mathlib.Omega.{arith}
 use lib.ListN.{length}
 use Rattle.parity.specs.Shape.{stripeLength, benchLength}
-use Rattle.inputs.specs.Rules.{stripeRules, restoreRules, showRules}
+use Rattle.inputs.specs.Rules.{stripeRules, restoreRules, showRules, listRules}
 use Rattle.evenodd.specs.Locates.{locateRules}
 use Rattle.evenodd.specs.Rewrites.{rewriteRules}
 use Rattle.evenodd.specs.Changes.{changeRules}
+use Rattle.evenodd.specs.declared.many_cells.ChangedAll.{ChangedAll}
+use Rattle.evenodd.specs.declared.many_cells.ChangedAll.the-variants as changedAll
+use Rattle.evenodd.specs.ChangesAll as all
+use Rattle.evenodd.specs.ChangesAll.{rulesOf, ChangesAll}
+use Rattle.refusals.specs.Refusals.{answerNumber}
 use Rattle.image.specs.Reads.{contentsRules, readRules}
 use Rattle.refusals.proofs.Rules.{never-number, equal-of}
 use Rattle.maps.specs.Determined.{OfBytesOne, AsBytesOne, FindsGapsOne}
 use Rattle.maps.proofs.Determined.{of-bytes-one, as-bytes-one, finds-gaps-one}
-use Rattle.evenodd.specs.Determined.{PlacesOne, RestoresOne, LocatesOne, RewritesOne, ChangesOne, EncodesOne, ChecksOne}
-use Rattle.evenodd.proofs.Determined.{places-one, restores-one, locates-one, rewrites-one, changes-one, encodes-one, checks-one}
+use Rattle.evenodd.specs.Determined.{PlacesOne, RestoresOne, LocatesOne, RewritesOne, ChangesOne, ChangesAllOne, EncodesOne, ChecksOne}
+use Rattle.evenodd.proofs.Determined.{places-one, restores-one, locates-one, rewrites-one, changes-one, changes-all-one, encodes-one, checks-one}
 use Rattle.image.specs.declared.answers.Contents.{Contents}
 use Rattle.image.specs.Determined.{ContentsOne, ReadsOne}
 use Rattle.image.proofs.Determined.{contents-one, reads-one}
-use Rattle.oarwillow.specs.Calls.{EncodeGives, CheckGives, RestoreGives, LocateGives, RewriteGives, ChangeGives, ShowGives, ContentsWritten, ContentsGives, ReadGives}
-use Rattle.oarwillow.specs.Determined.{EncodeGivesOne, CheckGivesOne, RestoreGivesOne, LocateGivesOne, RewriteGivesOne, ChangeGivesOne, ShowGivesOne, ContentsGivesOne, ReadGivesOne, GapsGivesOne, StripeLengthGivesOne, BenchLengthGivesOne, NeverLying}
+use Rattle.oarwillow.specs.Calls.{EncodeGives, CheckGives, RestoreGives, LocateGives, RewriteGives, ChangeGives, ChangesGives, ShowGives, ContentsWritten, ContentsGives, ReadGives}
+use Rattle.oarwillow.specs.Determined.{EncodeGivesOne, CheckGivesOne, RestoreGivesOne, LocateGivesOne, RewriteGivesOne, ChangeGivesOne, ChangesGivesOne, ShowGivesOne, ContentsGivesOne, ReadGivesOne, GapsGivesOne, StripeLengthGivesOne, BenchLengthGivesOne, NeverLying}
 
 pub encode-gives-one : EncodeGivesOne
 unfolding EncodeGivesOne EncodesOne
@@ -59,6 +64,12 @@ unfolding ChangeGivesOne ChangesOne
 change-gives-one m k b s after after′ column row cell r r′ p q =
     let (e, bytes) = changes-one m k b column row cell s after after′ (p .answer) (q .answer) (p .meets) (q .meets) in
     (bytes, cc)
+
+pub changes-gives-one : ChangesGivesOne
+unfolding ChangesGivesOne ChangesAllOne
+changes-gives-one m k b s after after′ columns rows cells x r x′ r′ p q =
+    let (e, bytes) = changes-all-one m k b columns rows cells s after after′ (p .answer) (q .answer) (p .meets) (q .meets) in
+    (bytes, cc, cc)
 
 pub show-gives-one : ShowGivesOne
 unfolding ShowGivesOne PlacesOne OfBytesOne
@@ -110,7 +121,7 @@ bench-length-gives-one m b r r′ p q = length-one (benchLength m b) r r′ (p .
 
 pub never-lying : NeverLying
 unfolding NeverLying
-never-lying = (encoded, checked, located, rewritten, changed, said, taken, restored, shown)
+never-lying = (encoded, checked, located, rewritten, changed, all-changed, said, taken, restored, shown)
   where
     encoded : (m k b : ℕ) (s after : List ℕ) (r : ℕ) → EncodeGives m k b s after r → r ≢ 17
     encoded m k b s after r p e = never-number 17 (stripeRules m k b (length s)) _ (omega arith) (λ q. absurd (omega arith), (λ q. absurd (omega arith), (λ q. absurd (omega arith), (λ q. absurd (omega arith), tt)))) (p .meets .told) (sym (p .number) ∙ e)
@@ -126,6 +137,17 @@ never-lying = (encoded, checked, located, rewritten, changed, said, taken, resto
 
     changed : (m k b : ℕ) (s after : List ℕ) (column row : ℕ) (cell : List ℕ) (r : ℕ) → ChangeGives m k b s after column row cell r → r ≢ 17
     changed m k b s after column row cell r p e = never-number 17 (changeRules m k b column row cell s) _ (omega arith) (λ q. absurd (omega arith), (λ q. absurd (omega arith), (λ q. absurd (omega arith), (λ q. absurd (omega arith), (λ q. absurd (omega arith), (λ q. absurd (omega arith), (λ q. absurd (omega arith), tt))))))) (p .meets .told) (sym (p .number) ∙ e)
+
+    -- the lists as a whole, or an item, by change's rules
+    never-all : (m k b : ℕ) (s after columns rows cells : List ℕ) (a : ChangedAll) → ChangesAll m k b columns rows cells s after a → answerNumber (all.verdictOf a) ≢ 17
+    never-all m k b s after columns rows cells changedAll.Done p e = omega arith
+    never-all m k b s after columns rows cells (changedAll.Refused f) p e =
+        never-number 17 (listRules m k b (length s) (length columns) (length rows) (length cells)) _ (omega arith) (λ q. absurd (omega arith), (λ q. absurd (omega arith), (λ q. absurd (omega arith), (λ q. absurd (omega arith), (λ q. absurd (omega arith), tt))))) (p .told) e
+    never-all m k b s after columns rows cells (changedAll.ItemRefused i f) p e =
+        never-number 17 (rulesOf m k b columns rows cells s i) _ (omega arith) (λ q. absurd (omega arith), (λ q. absurd (omega arith), (λ q. absurd (omega arith), (λ q. absurd (omega arith), (λ q. absurd (omega arith), (λ q. absurd (omega arith), (λ q. absurd (omega arith), tt))))))) (p .told .1 .refused) e
+
+    all-changed : (m k b : ℕ) (s after columns rows cells : List ℕ) (x r : ℕ) → ChangesGives m k b s after columns rows cells x r → r ≢ 17
+    all-changed m k b s after columns rows cells x r p e = never-all m k b s after columns rows cells (p .answer) (p .meets) (sym (p .number) ∙ e)
 
     said : (image places : List ℕ) (x y z r : ℕ) → ContentsGives image places x y z r → r ≢ 17
     said image places x y z r p e = never-number 17 (contentsRules image) _ (omega arith) (λ q. absurd (omega arith), (λ q. absurd (omega arith), (λ q. absurd (omega arith), (λ q. absurd (omega arith), (λ q. absurd (omega arith), tt))))) (p .meets .told) (sym (p .written .number) ∙ e)

@@ -1,6 +1,6 @@
 -- What each call for C gives: there is an answer of the call below it that meets its promise, and the number and the results are that
 -- answer's. The parameters are the arguments, then the results, then the number.
---   EncodeGives, CheckGives, RestoreGives, LocateGives, RewriteGives, ChangeGives, ShowGives, ContentsGives, ReadGives
+--   EncodeGives, CheckGives, RestoreGives, LocateGives, RewriteGives, ChangeGives, ChangesGives, ShowGives, ContentsGives, ReadGives
 --   ContentsWritten      what the last two write, of what was found
 --   GapsGives            what the map of these bytes keeps, and its absent places below k + 2; it is never refused
 --   StripeLengthGives    the bytes of a stripe; 0 where the three numbers are no shape
@@ -10,6 +10,7 @@ use mathlib.Core.List.{List}
 use Prim.Native.Nat.{ℕ, _+_, _≤_}
 use Rattle.parity.specs.Shape.{OddPrime, Shape, stripeLength, benchLength}
 use Rattle.evenodd.specs.declared.one_cell.Changed.{Changed}
+use Rattle.evenodd.specs.declared.many_cells.ChangedAll.{ChangedAll}
 use Rattle.evenodd.specs.declared.checks.Checked.{Checked}
 use Rattle.evenodd.specs.declared.encodes.Encoded.{Encoded}
 use Rattle.maps.specs.declared.Gaps.{Gaps}
@@ -32,6 +33,8 @@ use Rattle.evenodd.specs.Rewrites.{Rewrites}
 use Rattle.evenodd.specs.Rewrites as rewrites
 use Rattle.evenodd.specs.Changes.{Changes}
 use Rattle.evenodd.specs.Changes as changes
+use Rattle.evenodd.specs.ChangesAll.{ChangesAll, itemOf}
+use Rattle.evenodd.specs.ChangesAll as all
 use Rattle.evenodd.specs.Shows.{Places, fromBenchOf, startOf, lengthOf}
 use Rattle.evenodd.specs.Shows as shows
 use Rattle.image.specs.declared.answers.Contents.{Contents}
@@ -77,6 +80,12 @@ pub record ChangeGives (m k b : ℕ) (before after : List ℕ) (column row : ℕ
   pub answer : Changed
   pub meets : Changes m k b column row cell before after answer
   pub number : r ≡ answerNumber (changes.verdictOf answer)
+
+pub record ChangesGives (m k b : ℕ) (before after columns rows cells : List ℕ) (x r : ℕ) : Type 0 where
+  pub answer : ChangedAll
+  pub meets : ChangesAll m k b columns rows cells before after answer
+  pub item : x ≡ itemOf answer
+  pub number : r ≡ answerNumber (all.verdictOf answer)
 
 pub record ShowGives (m k b : ℕ) (places s bench : List ℕ) (column x y n r : ℕ) : Type 0 where
   pub map : Map

@@ -5,7 +5,7 @@ use mathlib.Core.Path.{_≡_}
 use mathlib.Core.Logic.{_≢_}
 use mathlib.Core.List.{List}
 use Prim.Native.Nat.{ℕ}
-use Rattle.oarwillow.specs.Calls.{EncodeGives, CheckGives, RestoreGives, LocateGives, RewriteGives, ChangeGives, ShowGives, ContentsGives, ReadGives, GapsGives, StripeLengthGives, BenchLengthGives}
+use Rattle.oarwillow.specs.Calls.{EncodeGives, CheckGives, RestoreGives, LocateGives, RewriteGives, ChangeGives, ChangesGives, ShowGives, ContentsGives, ReadGives, GapsGives, StripeLengthGives, BenchLengthGives}
 
 unfoldable pub EncodeGivesOne : Type 0
 EncodeGivesOne = (m k b : ℕ) (s after after′ : List ℕ) (r r′ : ℕ) → EncodeGives m k b s after r → EncodeGives m k b s after′ r′ → (after ≡ after′) × (r ≡ r′)
@@ -28,6 +28,10 @@ RewriteGivesOne = (m k b : ℕ) (s after after′ : List ℕ) (column r r′ : �
 unfoldable pub ChangeGivesOne : Type 0
 ChangeGivesOne = (m k b : ℕ) (s after after′ : List ℕ) (column row : ℕ) (cell : List ℕ) (r r′ : ℕ)
     → ChangeGives m k b s after column row cell r → ChangeGives m k b s after′ column row cell r′ → (after ≡ after′) × (r ≡ r′)
+
+unfoldable pub ChangesGivesOne : Type 0
+ChangesGivesOne = (m k b : ℕ) (s after after′ columns rows cells : List ℕ) (x r x′ r′ : ℕ)
+    → ChangesGives m k b s after columns rows cells x r → ChangesGives m k b s after′ columns rows cells x′ r′ → (after ≡ after′) × (x ≡ x′) × (r ≡ r′)
 
 unfoldable pub ShowGivesOne : Type 0
 ShowGivesOne = (m k b : ℕ) (places s bench : List ℕ) (column x y n r x′ y′ n′ r′ : ℕ)
@@ -61,6 +65,7 @@ NeverLying =
     × ((m k b : ℕ) (s : List ℕ) (x y r : ℕ) → LocateGives m k b s x y r → r ≢ 17)
     × ((m k b : ℕ) (s after : List ℕ) (column r : ℕ) → RewriteGives m k b s after column r → r ≢ 17)
     × ((m k b : ℕ) (s after : List ℕ) (column row : ℕ) (cell : List ℕ) (r : ℕ) → ChangeGives m k b s after column row cell r → r ≢ 17)
+    × ((m k b : ℕ) (s after columns rows cells : List ℕ) (x r : ℕ) → ChangesGives m k b s after columns rows cells x r → r ≢ 17)
     × ((image places : List ℕ) (x y z r : ℕ) → ContentsGives image places x y z r → r ≢ 17)
     × ((image s after places : List ℕ) (x y z r : ℕ) → ReadGives image s after places x y z r → r ≢ 17)
     × ((m k b : ℕ) (places s bench after : List ℕ) (n x y r : ℕ) → RestoreGives m k b places s bench after n x y r → r ≢ 17)

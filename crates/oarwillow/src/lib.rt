@@ -1,6 +1,7 @@
 // The calls for programs in C, as include/oarwillow.h has them. Each hands its arguments on, returns the number of the refusal or 0,
 // and writes its other results behind the pointers, on a refusal too. The two lengths are returned themselves, and are 0 for numbers outside their rules.
 use evenodd::Changed;
+use evenodd::ChangedAll;
 use evenodd::Checked;
 use evenodd::Encoded;
 use evenodd::Judged;
@@ -13,7 +14,7 @@ use image::Contents;
 use image::Read;
 ghost use mathlib.Core.Path.{_≡_};
 ghost use Prim.Native.Nat.{_+_, _≤_, _<_};
-ghost use Rattle.oarwillow.specs.Calls.{EncodeGives, CheckGives, RestoreGives, LocateGives, RewriteGives, ChangeGives, ShowGives, ContentsWritten, ContentsGives, ReadGives, GapsGives, StripeLengthGives, BenchLengthGives};
+ghost use Rattle.oarwillow.specs.Calls.{EncodeGives, CheckGives, RestoreGives, LocateGives, RewriteGives, ChangeGives, ChangesGives, ShowGives, ContentsWritten, ContentsGives, ReadGives, GapsGives, StripeLengthGives, BenchLengthGives};
 
 // Writes H and D.
 #[no_mangle]
@@ -148,6 +149,29 @@ pub extern "C" fn oarwillow_change(
     match evenodd::change(m, k, b, stripe, column, row, cell) {
         Changed::Done => 0,
         Changed::Refused(r) => r.number(),
+    }
+}
+
+// Changes up to 256 cells of data columns in list order, or none.
+#[no_mangle]
+pub extern "C" fn oarwillow_changes(
+    m: usize,
+    k: usize,
+    b: usize,
+    stripe: &mut [u8],
+    columns: &[usize],
+    rows: &[usize],
+    cells: &[u8],
+    item: &mut usize,
+) -> u8
+    ensures { λ r. ⌜ ChangesGives m k b (now (stripe .entry)) (now (stripe .exit)) (now (columns .entry)) (now (rows .entry)) (now (cells .entry)) (now (item .exit)) r ⌝ }
+{
+    let answer = evenodd::changes(m, k, b, stripe, columns, rows, cells);
+    *item = answer.item();
+    match answer {
+        ChangedAll::Done => 0,
+        ChangedAll::Refused(r) => r.number(),
+        ChangedAll::ItemRefused(_, f) => f.number(),
     }
 }
 

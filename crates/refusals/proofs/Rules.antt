@@ -7,6 +7,7 @@
 --   gives-instead               of two lists in a row another stands for the second
 --   never-number                a number that no rule brings whose condition can hold is not given
 --   gives-passed, gives-rest    two lists in a row pass: each does; the first passes: the second gives the verdict of both
+--   same-number                 the number of an answer, by another name of it
 --   first-not, first-one        of items that each pass none is the first that is refused; and there is one first, refused with one refusal
 --   each-instead, first-instead   items are asked other rules that give the same verdicts
 use mathlib.Core.Path.{_≡_, refl, sym, ap, _∙_}
@@ -82,6 +83,9 @@ pub never-number : (n : ℕ) (rules : List Rule) (v : Verdict) → 0 < n → Nev
 never-number n [] v some never g e = let z : 0 ≡ n = sym (ap answerNumber g) ∙ e in omega arith
 never-number n (r ∷ rules) v some never (inl p) e = never .0 (sym (ap answerNumber (p .1)) ∙ e) (p .0)
 never-number n (r ∷ rules) v some never (inr p) e = never-number n rules v some (never .1) (p .1) e
+
+pub same-number : {A : Type 0} (verdictOf : A → Verdict) {x y : A} → x ≡ y → answerNumber (verdictOf y) ≡ answerNumber (verdictOf x)
+same-number verdictOf e = sym (ap (λ z. answerNumber (verdictOf z)) e)
 
 -- ---- items
 

@@ -1,15 +1,10 @@
 -- `oarwillow::oarwillow_locate` meets its contract: the answer is locate's, what it found and names is written, and each arm returns its number.
-use mathlib.Core.Path.{_≡_, sym, ap, _∙_}
-use Rattle.refusals.specs.Refusals.{answerNumber}
-use Rattle.evenodd.specs.declared.locates.Located.{Located}
+use mathlib.Core.Path.{_∙_}
+use Rattle.refusals.proofs.Rules.{same-number}
 use Rattle.evenodd.specs.Locates.{verdictOf}
 use borrow.Author.Needs.{needs}
 use Rattle.oarwillow.proofs.oarwillow_locate.Statement.{statement}
 use Rattle.oarwillow.proofs.oarwillow_locate.Tie as tie
-
--- the number of an answer, by another name of it
-number-of : {x y : Located} → x ≡ y → answerNumber (verdictOf y) ≡ answerNumber (verdictOf x)
-number-of e = sym (ap (λ (z : Located). answerNumber (verdictOf z)) e)
 
 locate-requires : tie.Need-locate-requires
 locate-requires c κs = search needs
@@ -39,25 +34,25 @@ returns : tie.Need-returns
 returns c =
     let at = c .before .before in
     let z = at .before .before in
-    record { answer = z .locate .result; meets = z .locate .ensures; found = at .before .found .ensures; column = at .column .ensures; number = number-of (c .enum-told .given .1) }
+    record { answer = z .locate .result; meets = z .locate .ensures; found = at .before .found .ensures; column = at .column .ensures; number = same-number verdictOf (c .enum-told .given .1) }
 
 returns-2 : tie.Need-returns-2
 returns-2 c =
     let at = c .before .before in
     let z = at .before .before in
-    record { answer = z .locate .result; meets = z .locate .ensures; found = at .before .found .ensures; column = at .column .ensures; number = number-of (c .enum-told2 .given .1) }
+    record { answer = z .locate .result; meets = z .locate .ensures; found = at .before .found .ensures; column = at .column .ensures; number = same-number verdictOf (c .enum-told2 .given .1) }
 
 returns-3 : tie.Need-returns-3
 returns-3 c =
     let at = c .before .before in
     let z = at .before .before in
-    record { answer = z .locate .result; meets = z .locate .ensures; found = at .before .found .ensures; column = at .column .ensures; number = number-of (c .enum-told3 .given .1) }
+    record { answer = z .locate .result; meets = z .locate .ensures; found = at .before .found .ensures; column = at .column .ensures; number = same-number verdictOf (c .enum-told3 .given .1) }
 
 returns-4 : tie.Need-returns-4
 returns-4 c =
     let at = c .before .before .before .before in
     let z = at .before .before in
-    record { answer = z .locate .result; meets = z .locate .ensures; found = at .before .found .ensures; column = at .column .ensures; number = c .number .ensures ∙ number-of (c .before .before .answer .given .1) }
+    record { answer = z .locate .result; meets = z .locate .ensures; found = at .before .found .ensures; column = at .column .ensures; number = c .number .ensures ∙ same-number verdictOf (c .before .before .answer .given .1) }
 
 pub oarwillow-locate-spec : {M : Type 1} → statement M
 oarwillow-locate-spec =

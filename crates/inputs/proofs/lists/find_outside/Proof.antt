@@ -5,7 +5,7 @@ use Prim.Native.Nat.{ℕ, _-_, _≤_, _<_}
 use lib.ListN.{length, getD}
 use native.Mathlib.Omega.{arith}
 use denote.Ref.{now}
-use borrow.Author.Count.{below-none, below-more}
+use borrow.Author.Count.{below-more}
 use borrow.Author.Needs.{needs}
 use borrow.Author.Tests.{not-true, not-false}
 use Rattle.inputs.specs.Lists.{OfData}

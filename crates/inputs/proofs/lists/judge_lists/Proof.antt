@@ -1,7 +1,7 @@
 -- `inputs::lists::judge_lists` meets its contract: the verdict on the stripe is passed on, or the lengths of the lists are tested.
 use mathlib.Core.Logic.{inl, inr}
 use mathlib.Core.List.{[], _∷_}
-use Prim.Native.Nat.{ℕ, _*_, _≤_}
+use Prim.Native.Nat.{_*_, _≤_}
 use native.Mathlib.Nat.{mul-le-mul-right}
 use native.Mathlib.Omega.{arith}
 use Rattle.inputs.specs.Rules.{wrongLists, stripeRules}
