@@ -5,10 +5,11 @@
 --   stands-each, stands-own     a cell stands in every equation of D where its diagonal is that of S, and else in that of its diagonal
 --   H-grown, D-grown   where n was added to one data cell, what an equation asks for grows by n where that cell stands in it
 --   rows-kept, diagonals-kept, parity-grown   so a lane in which everything that depends on the cell grew by n keeps its amounts; and the other way round
---   of-grown        so a stripe is changed in that cell where in every lane what depends on it grew by what it changed by
+--   of-grown, of-columns   so a stripe is changed in that cell where in every lane what depends on it grew by what it changed by
 --   apart           no byte of a cell is one of another's
---   changed-off-s, changed-on-s   what the code leaves of a stripe, off the diagonal of S and on it
-use mathlib.Core.Path.{_≡_, refl, sym, ap, ap₂, _∙_}
+--   changed-off-s, changed-on-s, changed-owing   what the code leaves of a stripe, off the diagonal of S and on it, and on it where D's cells are owed what they
+--                   would get
+use mathlib.Core.Path.{_≡_, refl, sym, ap, ap₂, subst, _∙_}
 use mathlib.Core.Logic.{_≢_}
 use mathlib.Core.Bool.{Bool, true, false, cond, _||_}
 use mathlib.Core.List.{List}
@@ -23,17 +24,20 @@ use Rattle.parity.specs.Sum.{sum}
 use Rattle.parity.specs.Equations.{Lane, cell, back, H, S, D, amountH, amountD}
 use Rattle.parity.specs.Stripe.{lane}
 use Rattle.parity.specs.Change.{standsInD, depends, CellChanged}
-use Rattle.parity.proofs.Xor.{⊕-self, ⊕-zero, zero-⊕, ⊕-cancel, ⊕-move, xor, by-sum}
+use Rattle.parity.proofs.Xor.{⊕-assoc, ⊕-self, ⊕-zero, zero-⊕, ⊕-cancel, ⊕-move, xor, by-sum}
 use Rattle.parity.proofs.Sum.{sum-add, sum-one}
 use Rattle.parity.proofs.Cells.{diagonal, S-diagonal, cell-real, cell-below, cell-same}
 use Rattle.parity.proofs.Change.{depends-itself, depends-h, depends-d, depends-none, depends-other, by-cell}
 use Rattle.cells.specs.Runs.{Put, Exchanged}
 use Rattle.cells.proofs.Parts.{parts-end, by-order}
+use Rattle.cells.proofs.Puts.{put-start}
 use Rattle.lines.specs.declared.Grid.{Grid}
 use Rattle.lines.specs.Lines.{Sized, Laid}
 use Rattle.lines.specs.Rows.{Lined}
 use Rattle.lines.proofs.Lines.{up-around, up-straight, column-is}
 use Rattle.lines.proofs.Cells.{at-row}
+use Rattle.changing.specs.Owed.{OncePaid}
+use Rattle.changing.proofs.Owed.{paid-other, paid-d}
 
 -- ---- where cells lie
 
@@ -182,6 +186,28 @@ of-grown m k b t i s v new big few ht hi size grown = record {
   stays = λ l r x hl hr hx e. grown l r x hl hr hx ∙ ap (λ (y : Bool). lane m b s l r x ⊕ cond y (lane m b s l i t ⊕ getD new l 0) 0) e ∙ ⊕-zero (lane m b s l r x);
 }
 
+-- The same, told column by column: the cell's own, H, D and the others.
+module _ (m k b t i : ℕ) (s v new : List ℕ) (big : 1 < m) (few : k ≤ m) (ht : t < k) (hi : i < m - 1) where
+  -- what depends on the cell grows by what it changes by
+  abbrev Grown : ℕ → ℕ → ℕ → Bool → Type 0
+  Grown l r x test = lane m b v l r x ≡ lane m b s l r x ⊕ cond test (lane m b s l i t ⊕ getD new l 0) 0
+
+  pub of-columns : length v ≡ length s
+      → ((l r x : ℕ) → l < b → r < m - 1 → x < k → (x ≡ t → r ≢ i) → lane m b v l r x ≡ lane m b s l r x)
+      → ((l : ℕ) → l < b → lane m b v l i t ≡ getD new l 0)
+      → ((l r : ℕ) → l < b → r < m - 1 → Grown l r k (eqb r i))
+      → ((l r : ℕ) → l < b → r < m - 1 → Grown l r (k + 1) (standsInD m t i r))
+      → CellChanged m k b t i new s v
+  of-columns size others itself in-h in-d = of-grown m k b t i s v new big few ht hi size (λ l r x hl hr hx. elim (decLt x k) [
+    | yes low ↦ by-cell (Grown l r x (depends m k t i r x)) x r t i
+        (λ e d. rw (e, d) (subst (Grown l i t) (sym (depends-itself m k t i ht i ∙ eq-eqb i i refl)) (itself l hl ∙ sym (⊕-cancel (lane m b s l i t) (getD new l 0)))))
+        (λ other. subst (Grown l r x) (sym (depends-other m k t i ht r x low other)) (others l r x hl hr low other ∙ sym (⊕-zero (lane m b s l r x))))
+    | no high ↦ elim (ℕ-discrete x k) [
+      | yes e ↦ rw e (subst (Grown l r k) (sym (depends-h m k t i ht r)) (in-h l r hl hr))
+      | no ne ↦ let e : x ≡ k + 1 = omega (arith, ne) in rw e (subst (Grown l r (k + 1)) (sym (depends-d m k t i ht r)) (in-d l r hl hr))
+    ]
+  ])
+
 -- ---- what the steps leave, cell by cell
 
 -- of another cell than that in row i of column t no byte is one of its bytes
@@ -200,28 +226,6 @@ module _ {m b c : ℕ} (z : Sized m b c) (k t i : ℕ) (s v new : List ℕ) (few
   -- the difference
   abbrev delta : ℕ → ℕ
   delta l = lane m b s l i t ⊕ getD new l 0
-
-  abbrev Grown : ℕ → ℕ → ℕ → Type 0
-  Grown l r x = lane m b v l r x ≡ lane m b s l r x ⊕ cond (depends m k t i r x) (delta l) 0
-
-  -- from what the cells became, column by column: the cell's own, H, D and the others
-  columns : ((l r x : ℕ) → l < b → r < m - 1 → x < k → (x ≡ t → r ≢ i) → lane m b v l r x ≡ lane m b s l r x)
-      → ((l : ℕ) → l < b → lane m b v l i t ≡ getD new l 0)
-      → ((l r : ℕ) → l < b → r < m - 1 → lane m b v l r k ≡ lane m b s l r k ⊕ cond (eqb r i) (delta l) 0)
-      → ((l r : ℕ) → l < b → r < m - 1 → lane m b v l r (k + 1) ≡ lane m b s l r (k + 1) ⊕ cond (standsInD m t i r) (delta l) 0)
-      → (l r x : ℕ) → l < b → r < m - 1 → x < k + 2 → Grown l r x
-  columns others itself in-h in-d l r x hl hr hx = elim (decLt x k) [
-    | yes low ↦ by-cell (Grown l r x) x r t i
-        (λ e d. rw (e, d) (itself l hl ∙ sym (⊕-cancel (lane m b s l i t) (getD new l 0)) ∙ with-test i t (sym (depends-itself m k t i ht i ∙ eq-eqb i i refl))))
-        (λ other. others l r x hl hr low other ∙ sym (⊕-zero (lane m b s l r x)) ∙ with-test r x (sym (depends-other m k t i ht r x low other)))
-    | no high ↦ elim (ℕ-discrete x k) [
-      | yes e ↦ rw e (in-h l r hl hr ∙ with-test r k (sym (depends-h m k t i ht r)))
-      | no ne ↦ let e : x ≡ k + 1 = omega (arith, ne) in rw e (in-d l r hl hr ∙ with-test r (k + 1) (sym (depends-d m k t i ht r)))
-    ]
-  ]
-    where
-      with-test : (r x : ℕ) {p q : Bool} → p ≡ q → lane m b s l r x ⊕ cond p (delta l) 0 ≡ lane m b s l r x ⊕ cond q (delta l) 0
-      with-test r x e = ap (λ (y : Bool). lane m b s l r x ⊕ cond y (delta l) 0) e
 
   -- where byte l of the cell in row r of column x stands
   at-cell : (w : List ℕ) (x r l : ℕ) → getD w (x * c + r * b + l) 0 ≡ lane m b w l r x
@@ -265,18 +269,19 @@ module _ {m b c : ℕ} (z : Sized m b c) (k t i : ℕ) (s v new : List ℕ) (few
         stands r hr = stands-own m t i own (z .big) (omega arith) (omega arith) at-own (λ q. absurd (omega (arith, q))) r (omega arith)
 
     pub changed-off-s : CellChanged m k b t i new s v
-    changed-off-s = of-grown m k b t i s v new (z .big) few ht hi (e .size) (columns
+    changed-off-s = of-columns m k b t i s v new (z .big) few ht hi (e .size)
         (λ l r x hl hr hx ne. kept l r x hl hr ne (λ q. absurd (omega (arith, q))) (λ q. absurd (omega (arith, q))))
         (λ l hl. sym (at-cell v t i l) ∙ e .inside l hl)
-        in-h-off in-d-off)
+        in-h-off in-d-off
 
-  -- ---- on it, in four steps: the cell gets the new bytes added, H's cell gets the cell added, D's cells do, and the cell becomes the new bytes
+  -- ---- on it, in four steps: the cell gets the new bytes added, H's cell gets the cell added, D's cells or what they are owed do, and the cell becomes the new
+  -- bytes
 
-  module _ (on : back m (m - 1) t ≡ i) (s₁ s₂ s₃ : List ℕ)
+  module _ (s₁ s₂ s₃ : List ℕ)
       (first : Put s s₁ (t * c + i * b) b (λ l. getD s (t * c + i * b + l) 0 ⊕ getD new (0 + l) 0))
       (second : Put s₁ s₂ (k * c + i * b) b (λ l. getD s₁ (k * c + i * b + l) 0 ⊕ getD s₁ (t * c + i * b + l) 0))
-      (third : Lined (m - 1) b (k * c + c) s₂ s₃ (λ r l. getD s₂ (k * c + c + (r * b + l)) 0 ⊕ getD s₂ (t * c + i * b + l) 0))
-      (fourth : Put s₃ v (t * c + i * b) b (λ l. getD new l 0)) where
+      (third : (p : ℕ) → p < k * c + c → getD s₃ p 0 ≡ getD s₂ p 0)
+      (fourth : Put s₃ v (t * c + i * b) b (λ l. getD new l 0)) (on : back m (m - 1) t ≡ i) where
     -- all cells but the one that a step sets are as they were
     but : (t : ℕ) {w u : List ℕ} {f : ℕ → ℕ} → Put w u (t * c + i * b) b f → (l r x : ℕ) → l < b → r < m - 1 → (x ≡ t → r ≢ i) → lane m b u l r x ≡ lane m b w l r x
     but t {w} {u} p l r x hl hr ne =
@@ -295,12 +300,20 @@ module _ {m b c : ℕ} (z : Sized m b c) (k t i : ℕ) (s v new : List ℕ) (few
     still-delta : (l : ℕ) → l < b → getD s₂ (t * c + i * b + l) 0 ≡ delta l
     still-delta l hl = at-cell s₂ t i l ∙ but k second l i t hl hi (λ e. absurd (omega (arith, e))) ∙ holds-delta l hl
 
-    -- the third step writes D alone
+    -- the third step writes nothing before D
     before-d : (l r x : ℕ) → l < b → r < m - 1 → x < k + 1 → lane m b s₃ l r x ≡ lane m b s₂ l r x
     before-d l r x hl hr hx =
         at-row z s₃ x l r
-        ∙ third .before (x * c + (r * b + l)) (omega (arith, parts-end c hx, parts-end b hr, column-is m b c z))
+        ∙ third (x * c + (r * b + l)) (omega (arith, parts-end c hx, parts-end b hr, column-is m b c z))
         ∙ sym (at-row z s₂ x l r)
+
+    itself-on : (l : ℕ) → l < b → lane m b v l i t ≡ getD new l 0
+    itself-on l hl = sym (at-cell v t i l) ∙ fourth .inside l hl
+
+    others-on : (l r x : ℕ) → l < b → r < m - 1 → x < k → (x ≡ t → r ≢ i) → lane m b v l r x ≡ lane m b s l r x
+    others-on l r x hl hr hx ne =
+        but t fourth l r x hl hr ne ∙ before-d l r x hl hr (omega arith)
+        ∙ but k second l r x hl hr (λ q. absurd (omega (arith, q))) ∙ but t first l r x hl hr ne
 
     in-h-on : (l r : ℕ) → l < b → r < m - 1 → lane m b v l r k ≡ lane m b s l r k ⊕ cond (eqb r i) (delta l) 0
     in-h-on l r hl hr = but t fourth l r k hl hr (λ q. absurd (omega (arith, q))) ∙ before-d l r k hl hr (omega arith) ∙ (elim (ℕ-discrete r i) [
@@ -313,20 +326,47 @@ module _ {m b c : ℕ} (z : Sized m b c) (k t i : ℕ) (s v new : List ℕ) (few
           ∙ sym (⊕-zero (lane m b s l r k)) ∙ ap (λ (y : Bool). lane m b s l r k ⊕ cond y (delta l) 0) (sym (ne-eqb r i ne))
     ])
 
-    in-d-on : (l r : ℕ) → l < b → r < m - 1 → lane m b v l r (k + 1) ≡ lane m b s l r (k + 1) ⊕ cond (standsInD m t i r) (delta l) 0
-    in-d-on l r hl hr =
-        let place : (k + 1) * c + (r * b + l) ≡ k * c + c + (r * b + l) = omega arith in
-        but t fourth l r (k + 1) hl hr (λ q. absurd (omega (arith, q)))
-        ∙ at-row z s₃ (k + 1) l r ∙ ap (λ (n : ℕ). getD s₃ n 0) place ∙ third .inside r l hr hl
-        ∙ ap₂ _⊕_ (
-        ap (λ (n : ℕ). getD s₂ n 0) (sym place) ∙ sym (at-row z s₂ (k + 1) l r)
-        ∙ but k second l r (k + 1) hl hr (λ q. absurd (omega (arith, q))) ∙ but t first l r (k + 1) hl hr (λ q. absurd (omega (arith, q)))) (still-delta l hl)
-        ∙ ap (λ (y : Bool). lane m b s l r (k + 1) ⊕ cond y (delta l) 0) (sym (stands-each m t i (m - 1) (z .big) (omega arith) (omega (arith, z .big)) on refl r))
+    -- no step but the third writes D
+    d-first : (l r : ℕ) → l < b → r < m - 1 → lane m b s₂ l r (k + 1) ≡ lane m b s l r (k + 1)
+    d-first l r hl hr = but k second l r (k + 1) hl hr (λ q. absurd (omega (arith, q))) ∙ but t first l r (k + 1) hl hr (λ q. absurd (omega (arith, q)))
 
-    pub changed-on-s : CellChanged m k b t i new s v
-    changed-on-s = of-grown m k b t i s v new (z .big) few ht hi (fourth .size ∙ third .size ∙ second .size ∙ first .size) (columns
-        (λ l r x hl hr hx ne.
-        but t fourth l r x hl hr ne ∙ before-d l r x hl hr (omega arith)
-        ∙ but k second l r x hl hr (λ q. absurd (omega (arith, q))) ∙ but t first l r x hl hr ne)
-        (λ l hl. sym (at-cell v t i l) ∙ fourth .inside l hl)
-        in-h-on in-d-on)
+    d-last : (l r : ℕ) → l < b → r < m - 1 → lane m b v l r (k + 1) ≡ lane m b s₃ l r (k + 1)
+    d-last l r hl hr = but t fourth l r (k + 1) hl hr (λ q. absurd (omega (arith, q)))
+
+    -- so where the cell stands in every equation of D
+    each-grown : (w p : ℕ → ℕ → ℕ) (l r : ℕ) → w r (k + 1) ≡ p r (k + 1) ⊕ delta l → w r (k + 1) ≡ p r (k + 1) ⊕ cond (standsInD m t i r) (delta l) 0
+    each-grown w p l r e = e ∙ ap (λ (y : Bool). p r (k + 1) ⊕ cond y (delta l) 0) (sym (stands-each m t i (m - 1) (z .big) (omega arith) (omega (arith, z .big)) on refl r))
+
+    pub changed-on-s : Lined (m - 1) b (k * c + c) s₂ s₃ (λ r l. getD s₂ (k * c + c + (r * b + l)) 0 ⊕ getD s₂ (t * c + i * b + l) 0) → CellChanged m k b t i new s v
+    changed-on-s lined = of-columns m k b t i s v new (z .big) few ht hi (fourth .size ∙ lined .size ∙ second .size ∙ first .size) others-on itself-on in-h-on (λ l r hl hr.
+        let place : (k + 1) * c + (r * b + l) ≡ k * c + c + (r * b + l) = omega arith in
+        each-grown (lane m b v l) (lane m b s l) l r (
+        d-last l r hl hr ∙ at-row z s₃ (k + 1) l r ∙ ap (λ (n : ℕ). getD s₃ n 0) place ∙ lined .inside r l hr hl
+        ∙ ap₂ _⊕_ (ap (λ (n : ℕ). getD s₂ n 0) (sym place) ∙ sym (at-row z s₂ (k + 1) l r) ∙ d-first l r hl hr) (still-delta l hl)))
+
+    -- where D's cells are owed it, the third step writes nothing
+    pub changed-owing : (owed debt : List ℕ) → s₃ ≡ s₂ → Put owed debt 0 b (λ l. getD owed (0 + l) 0 ⊕ getD s₂ (t * c + i * b + l) 0)
+        → OncePaid m k b owed s debt v (CellChanged m k b t i new)
+    changed-owing owed debt none gathered = record {
+      size = size;
+      room = gathered .size;
+      holds = λ p q before after.
+          let itself : (l : ℕ) → l < b → lane m b s l i t ≡ lane m b p l i t = λ l hl. sym (paid-other before l i t hl hi (omega arith)) in
+          of-columns m k b t i p q new (z .big) few ht hi (after .size ∙ size ∙ sym (before .size))
+          (λ l r x hl hr hx ne. paid-other after l r x hl hr (omega arith) ∙ others-on l r x hl hr hx ne ∙ sym (paid-other before l r x hl hr (omega arith)))
+          (λ l hl. paid-other after l i t hl hi (omega arith) ∙ itself-on l hl)
+          (λ l r hl hr.
+          paid-other after l r k hl hr (omega arith) ∙ in-h-on l r hl hr
+          ∙ ap₂ (λ (x y : ℕ). x ⊕ cond (eqb r i) (y ⊕ getD new l 0) 0) (sym (paid-other before l r k hl hr (omega arith))) (itself l hl))
+          (λ l r hl hr.
+          each-grown (lane m b q l) (lane m b p l) l r (
+          paid-d after l r hl hr ∙ ap₂ _⊕_ (d-last l r hl hr ∙ ap (λ (w : List ℕ). lane m b w l r (k + 1)) none ∙ d-first l r hl hr) (owes l hl)
+          ∙ sym (⊕-assoc (lane m b s l r (k + 1)) (getD owed l 0) (delta l)) ∙ ap (λ (x : ℕ). x ⊕ delta l) (sym (paid-d before l r hl hr)))
+          ∙ ap (λ (y : ℕ). lane m b p l r (k + 1) ⊕ cond (standsInD m t i r) (y ⊕ getD new l 0) 0) (itself l hl));
+    }
+      where
+        size : length v ≡ length s
+        size = fourth .size ∙ ap length none ∙ second .size ∙ first .size
+
+        owes : (l : ℕ) → l < b → getD debt l 0 ≡ getD owed l 0 ⊕ delta l
+        owes l hl = let e : 0 + l ≡ l = omega arith in put-start gathered l hl ∙ ap₂ _⊕_ (ap (λ (n : ℕ). getD owed n 0) e) (still-delta l hl)

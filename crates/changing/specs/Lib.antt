@@ -1,2 +1,3 @@
--- What the loops that change cells are given.
+-- What the loops that change cells are given, and what they leave.
 pub mod Items
+pub mod Owed

@@ -1,14 +1,16 @@
-// One data cell of a stripe changed, or several one after another, and with each the parity cells that depend on it: H's cell in its row, and D's cell of its diagonal, or every cell of D where
-// it lies on the diagonal of S. Each gets added what the cell changes by. Nothing else is read or written, so the cost does not grow with k, and with m on the
-// diagonal of S alone.
+// One data cell of a stripe changed, or several one after another, and with each the parity cells that depend on it: H's cell in its row, and D's cell of its
+// diagonal, or every cell of D where it lies on the diagonal of S. Each gets added what the cell changes by. Nothing else is read or written, so the cost does
+// not grow with k, and with m on the diagonal of S alone.
+mod many_cells;
+
 use lines::Grid;
+pub use many_cells::change_cells;
 ghost use mathlib.Core.Path.{_≡_};
 ghost use Prim.Native.Nat.{_+_, _-_, _*_, _≤_, _<_};
 ghost use lib.ListN.{length};
 ghost use Rattle.parity.specs.Equations.{back};
-ghost use Rattle.parity.specs.Change.{CellChanged, CellsChanged};
+ghost use Rattle.parity.specs.Change.{CellChanged};
 ghost use Rattle.lines.specs.Lines.{Laid};
-ghost use Rattle.changing.specs.Items.{Items};
 
 // The diagonal on which row i of column t lies. It has the number of its row in column 0; a step to the next column goes down by one row, so here it goes back
 // up by t, and jumps from m - 1 to 0. The diagonal of S is m - 1.
@@ -61,17 +63,5 @@ pub fn change_cell(s: &mut [u8], g: Grid, t: usize, i: usize, cell: &[u8])
         change_on_s(s, g, t, i, cell);
     } else {
         change_off_s(s, g, t, i, own, cell);
-    }
-}
-
-// The cells that the lists name become those of `cells`, one after another: item n is row n of column n, and the b bytes from n * b on.
-pub fn change_cells(s: &mut [u8], g: Grid, columns: &[usize], rows: &[usize], cells: &[u8])
-    requires { ⌜ Laid g (now s) × Items g (now columns) (now rows) (now cells) ⌝ }
-    ensures { λ _. ⌜ CellsChanged (g .m) (g .k) (g .b) (now (columns .entry)) (now (rows .entry)) (now (cells .entry)) (length (now (columns .entry))) (now (s .entry)) (now (s .exit)) ⌝ }
-{
-    let b = g.b;
-    for n in 0..columns.len() {
-        let at = n * b;
-        change_cell(s, g, columns[n], rows[n], &cells[at..at + b]);
     }
 }

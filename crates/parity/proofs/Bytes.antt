@@ -113,10 +113,14 @@ module _ (m k b : ℕ) (f : ℕ → Lane) where
       getD-tab (stripeLength m k b) _ (t * columnLength m b + (i * b + l)) (place-lt m k b l i t hl hi ht)
       ∙ rw (digits-div t {r = i * b + l} (digits-lt hi hl), digits-mod t {r = i * b + l} (digits-lt hi hl), digits-div i hl, digits-mod i hl)
 
+  pub build-length : length (build m k b f) ≡ stripeLength m k b
+  unfolding build
+  build-length = length-tab (stripeLength m k b) _
+
   pub build-stripe : ((l i t : ℕ) → f l i t < 256) → Stripe m k b (build m k b f)
   unfolding build
   build-stripe small = record {
-    whole = length-tab (stripeLength m k b) _;
+    whole = build-length;
     bytes = tab-each (λ x. x < 256) (omega arith) (stripeLength m k b) _ (λ x. small _ _ _);
   }
 

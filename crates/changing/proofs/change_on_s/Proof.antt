@@ -90,10 +90,11 @@ returns c =
     let third = c .before .before .before .before .before .before .add-to-each in
     let copied = c .before .before .copy-into in
     let size = third .ensures .size ∙ second .ensures .size ∙ first .ensures .size in
-    changed-on-s (z .pre .0 .sized) (g .k) (a .t) (a .i) (now (a .s)) _ (now (a .cell)) (z .pre .0 .few) (z .pre .1) (z .pre .2) (z .pre .3) (first .last .0) (second .last .0) (third .last .0)
-    (first .ensures) (second .ensures) (third .ensures)
+    changed-on-s (z .pre .0 .sized) (g .k) (a .t) (a .i) (now (a .s)) _ (now (a .cell)) (z .pre .0 .few) (z .pre .1) (z .pre .2) (first .last .0) (second .last .0) (third .last .0)
+    (first .ensures) (second .ensures) (third .ensures .before)
     (put-count (put-part (third .last .0) (copied .last .0) at (at + g .b - at) (λ l. getD (now (a .cell)) l 0) (omega (arith, size, row-within (z .pre .0) (z .args .i) (z .pre .2), column-within (z .pre .0) (z .args .t) (omega (arith, z .pre .1)))) (ap length (copied .ensures) ∙ z .pre .4 ∙ omega arith)
     (λ l h. ap (λ (x : List ℕ). getD x l 0) (copied .ensures))) (omega arith))
+    (z .pre .3) (third .ensures)
 
 pub change-on-s-spec : {M : Type 1} → statement M
 change-on-s-spec =
