@@ -8,9 +8,10 @@
  * order given at each call. A refused call changes no byte of a stripe or bench. The numbers behind pointers, and the places that
  * oarwillow_read and oarwillow_contents give, are results: they are written on every call, also on a refused one.
  *
- * What C must see to: each pointer is valid for the length that goes with it, and may be null where that length is 0; maps and the
- * pointers to numbers are not null; numbers behind pointers are aligned as their type is; no two of a call's pointers overlap, save that
- * buffers that are only read may be the same. Bytes may stand at any address: stripes, benches, images, cells and maps need no alignment.
+ * What C must see to: each pointer is valid for the length that goes with it; where that length is 0 it may be null, or any other
+ * pointer that C allows, as one past the end of an array. Maps and the pointers to one number are not null; numbers behind pointers, and
+ * lists of numbers, are aligned as their type is; no two of a call's pointers overlap, save that buffers that are only read may be the
+ * same. Bytes may stand at any address: stripes, benches, images, cells and maps need no alignment. A list's length counts its numbers.
  *
  * What a call needs: its stack, less than 64 KiB, so that a thread of 128 KiB is safe (as measured, rewrite takes 55 KiB, locate 44,
  * check and restore 40, each other call 5 at most); and memcpy, memmove and memset, which the compiler may call. It allocates nothing, has no
@@ -27,7 +28,7 @@
 #include <stddef.h>
 #include <stdint.h>
 
-#define OARWILLOW_VERSION "0.10.0"
+#define OARWILLOW_VERSION "0.11.0"
 
 /* Why a call is refused. Other numbers are never given. */
 enum oarwillow_refusal {
@@ -38,7 +39,7 @@ enum oarwillow_refusal {
     OARWILLOW_AMBIGUOUS = 4,      /* three or more columns absent */
     OARWILLOW_CONTRADICTED = 5,   /* no valid stripe agrees with every column that is read: restore with at most two absent, rewrite */
     OARWILLOW_UNMENDABLE = 6,     /* locate: no valid stripe differs in at most one column */
-    OARWILLOW_NO_SUCH_COLUMN = 7, /* column number not below k + 2, in change not below k */
+    OARWILLOW_NO_SUCH_COLUMN = 7, /* column number not below k + 2, in change and changes not below k */
     OARWILLOW_MALFORMED = 8,      /* image malformed */
     OARWILLOW_STRAY_COLUMN = 9,   /* map has a place at or above k + 2 present */
     OARWILLOW_TOO_LONG = 10,      /* program input longer than 16,384 bytes; never from these calls */
@@ -46,6 +47,7 @@ enum oarwillow_refusal {
     OARWILLOW_WRONG_K = 12,       /* k is 0 or above m */
     OARWILLOW_WRONG_B = 13,       /* b is 0 or above 4,096 */
     OARWILLOW_CELL_LENGTH = 14,   /* cell length differs from b */
+    OARWILLOW_WRONG_LISTS = 15,   /* lists differ in length or hold more than 256 items, or their bytes are not b for each */
     OARWILLOW_LYING_MAP = 17      /* map lies: its two numbers are not what its places say; never from these calls, for in C a map is
                                      its places alone, and its two numbers are made on the way in */
 };
@@ -61,7 +63,7 @@ static inline const char *oarwillow_reason(uint8_t number)
     case OARWILLOW_AMBIGUOUS: return "three or more columns absent";
     case OARWILLOW_CONTRADICTED: return "no valid stripe agrees with every column that is read";
     case OARWILLOW_UNMENDABLE: return "no valid stripe differs in at most one column";
-    case OARWILLOW_NO_SUCH_COLUMN: return "column number not below k + 2, in change not below k";
+    case OARWILLOW_NO_SUCH_COLUMN: return "column number not below k + 2, in change and changes not below k";
     case OARWILLOW_MALFORMED: return "image malformed";
     case OARWILLOW_STRAY_COLUMN: return "map has a place at or above k + 2 present";
     case OARWILLOW_TOO_LONG: return "program input longer than 16,384 bytes";
@@ -69,6 +71,7 @@ static inline const char *oarwillow_reason(uint8_t number)
     case OARWILLOW_WRONG_K: return "k is 0 or above m";
     case OARWILLOW_WRONG_B: return "b is 0 or above 4,096";
     case OARWILLOW_CELL_LENGTH: return "cell length differs from b";
+    case OARWILLOW_WRONG_LISTS: return "lists differ in length or hold more than 256 items, or their bytes are not b for each";
     case OARWILLOW_LYING_MAP: return "map lies: its two numbers are not what its places say";
     default: return "a number that is never given";
     }
@@ -135,6 +138,19 @@ uint8_t oarwillow_rewrite(size_t m, size_t k, size_t b, uint8_t *stripe, size_t 
  * may read or change the stripe meanwhile. Refusals: 1, 12, 13, 2, 7 for a column not below k (H and D cannot be named), 11, 14. */
 uint8_t oarwillow_change(size_t m, size_t k, size_t b, uint8_t *stripe, size_t stripe_len, size_t column, size_t row,
                          const uint8_t *cell, size_t cell_len);
+
+/* Makes up to 256 changes of one stripe in one call. Item n is the cell in row rows[n] of the data column columns[n], and its new bytes
+ * are the b bytes of `cells` from n * b on. Where all pass, the stripe is what oarwillow_change would leave of it, called with the items
+ * one at a time in list order: a cell that is named twice ends with the later bytes. Where one would be refused, nothing is changed, and
+ * `item` is the number of the first such item, counted from 0; it is 256 where no item is refused: where the call passes, and on 1, 12,
+ * 13, 2 and 15. Every item is judged before the first byte is written. An empty list with no bytes passes and changes nothing.
+ *
+ * What is said of oarwillow_change holds of each item. Cells on the diagonal of S change every cell of D: that is done once for all of
+ * them. No byte is read or written but those of cells that an item names, or that depend on one. What D is to get is gathered in 4,096
+ * bytes of the stack, which are cleared first: for a single cell oarwillow_change is the quicker call. Refusals: 1, 12, 13, 2, then 15,
+ * then by item 7 for a column not below k and 11. */
+uint8_t oarwillow_changes(size_t m, size_t k, size_t b, uint8_t *stripe, size_t stripe_len, const size_t *columns, size_t columns_len,
+                          const size_t *rows, size_t rows_len, const uint8_t *cells, size_t cells_len, size_t *item);
 
 /* Says where a column lies: `from_bench` 0 for the stripe and 1 for the bench, and the part's start and length there. It reads no byte
  * and does not judge whether the bench was filled. On a refusal: 0, 0, 0. Refusals: 1, 12, 13, 2, 3, 9, 7, 4. */

@@ -3,7 +3,7 @@
 #include "../../include/oarwillow.h"
 
 typedef struct {
-    const uint8_t *bytes;
+    const void *start;
     size_t length;
 } Part;
 
@@ -14,6 +14,7 @@ uint8_t unproved_restore(size_t m, size_t k, size_t b, const uint8_t *places, Pa
 uint8_t unproved_locate(size_t m, size_t k, size_t b, Part *stripe, uint8_t *found, size_t *column);
 uint8_t unproved_rewrite(size_t m, size_t k, size_t b, Part *stripe, size_t column);
 uint8_t unproved_change(size_t m, size_t k, size_t b, Part *stripe, size_t column, size_t row, Part *cell);
+uint8_t unproved_changes(size_t m, size_t k, size_t b, Part *stripe, Part *columns, Part *rows, Part *cells, size_t *item);
 uint8_t unproved_show(size_t m, size_t k, size_t b, const uint8_t *places, Part *stripe, Part *bench, size_t column,
                       size_t *from_bench, size_t *start, size_t *length);
 uint8_t unproved_read(Part *image, Part *stripe, uint8_t *places, size_t *m, size_t *k, size_t *b);
@@ -59,6 +60,13 @@ uint8_t oarwillow_change(size_t m, size_t k, size_t b, uint8_t *stripe, size_t s
 {
     Part s = {stripe, stripe_len}, c = {cell, cell_len};
     return unproved_change(m, k, b, &s, column, row, &c);
+}
+
+uint8_t oarwillow_changes(size_t m, size_t k, size_t b, uint8_t *stripe, size_t stripe_len, const size_t *columns, size_t columns_len,
+                          const size_t *rows, size_t rows_len, const uint8_t *cells, size_t cells_len, size_t *item)
+{
+    Part s = {stripe, stripe_len}, t = {columns, columns_len}, i = {rows, rows_len}, c = {cells, cells_len};
+    return unproved_changes(m, k, b, &s, &t, &i, &c, item);
 }
 
 uint8_t oarwillow_show(size_t m, size_t k, size_t b, const uint8_t places[129], const uint8_t *stripe, size_t stripe_len,

@@ -3,9 +3,9 @@
 --   done            where all that change asks is so, it is done
 --   all-grown       what the cells get added, and left-stripe: so what is left is bytes
 --   same-counts, same-broken, same-checks   the same amounts, the same counts
---   near-too, one-too, same-rules   what is near to one stripe has its like near to another that has the same amounts
+--   near-too, one-too, same-rules, same-blame   what is near to one stripe has its like near to another that has the same amounts; so locate says the same of both
 use mathlib.Core.Path.{_≡_, refl, sym, ap, ap₂, _∙_}
-use mathlib.Core.Logic.{_≢_, inl, inr}
+use mathlib.Core.Logic.{_≢_, _↔_, inl, inr}
 use mathlib.Core.Bool.{Bool, true, false, cond, not}
 use mathlib.Core.List.{List, [], _∷_}
 use Prim.Native.Nat.{ℕ, _+_, _-_, _≤_, _<_}
@@ -190,13 +190,13 @@ module _ (m k b : ℕ) (s v : List ℕ) (ps : Stripe m k b s) (pv : Stripe m k b
       instead (inl c) = inl (λ w vw few. let (o, vo, e) = near-too m k b v s pv ps (amounts-back same) w vw in c .0 o vo (rw e few), c .1)
       instead (inr c) = inr (λ d. c .0 (λ w vw few. let (o, vo, e) = near-too m k b s v ps pv same w vw in d o vo (rw e few)), c .1)
 
-  pub still-named : (r q : Located) → Locates m k b s r → Locates m k b v q → (u : ℕ) → r ≡ located.Column u → q ≡ located.Column u
+  still-named : (r q : Located) → Locates m k b s r → Locates m k b v q → (u : ℕ) → r ≡ located.Column u → q ≡ located.Column u
   still-named r q pr pq u e =
       let passes : locates.verdictOf r ≡ pass = ap locates.verdictOf e in
       let answered : locates.verdictOf r ≡ locates.verdictOf q = gives-one (locateRules m k b v) _ _ (same-rules (pr .told)) (pq .told) in
       pq .found (sym answered ∙ passes) .named u .1 (one-too m k b s v ps pv same u (pr .found passes .named u .0 e))
 
-  pub still-six : (r q : Located) → Locates m k b s r → Locates m k b v q → r ≡ located.Refused Unmendable → q ≡ located.Refused Unmendable
+  still-six : (r q : Located) → Locates m k b s r → Locates m k b v q → r ≡ located.Refused Unmendable → q ≡ located.Refused Unmendable
   still-six r q pr pq e = refused-with q (sym (gives-one (locateRules m k b v) _ _ (same-rules (pr .told)) (pq .told)) ∙ ap locates.verdictOf e)
     where
       refused-with : (q : Located) → locates.verdictOf q ≡ refuse Unmendable → q ≡ located.Refused Unmendable
@@ -205,15 +205,19 @@ module _ (m k b : ℕ) (s v : List ℕ) (ps : Stripe m k b s) (pv : Stripe m k b
       refused-with (located.Column u) e = absurd (passes-not Unmendable e)
       refused-with (located.Refused g) e = ap located.Refused (refuse-one g Unmendable e)
 
+-- so locate says the same of both
+pub same-blame : (m k b : ℕ) (s v : List ℕ) (r q : Located) → Stripe m k b s → Stripe m k b v → SameAmounts m k b s v → Locates m k b s r → Locates m k b v q
+    → ((u : ℕ) → (r ≡ located.Column u) ↔ (q ≡ located.Column u)) × ((r ≡ located.Refused Unmendable) ↔ (q ≡ located.Refused Unmendable))
+same-blame m k b s v r q ps pv same pr pq =
+    let other = amounts-back same in (
+      λ u. (still-named m k b s v ps pv same r q pr pq u, still-named m k b v s pv ps other q r pq pr u),
+      (still-six m k b s v ps pv same r q pr pq, still-six m k b v s pv ps other q r pq pr),
+    )
+
 pub change-keeps-blame : ChangeKeepsBlame
 unfolding ChangeKeepsBlame
 change-keeps-blame m k b column row cell s after r q ps small p pr pq =
-    let pv = left-stripe m k b column row cell s after p ps small in
-    let same = p .left .amounts in
-    let other = amounts-back same in (
-      λ u. (still-named m k b s after ps pv same r q pr pq u, still-named m k b after s pv ps other q r pq pr u),
-      (still-six m k b s after ps pv same r q pr pq, still-six m k b after s pv ps other q r pq pr),
-    )
+    same-blame m k b s after r q ps (left-stripe m k b column row cell s after p ps small) (p .left .amounts) pr pq
 
 -- ---- change after change
 

@@ -34,10 +34,10 @@ use Rattle.evenodd.specs.Encodes.{Encodes}
 use Rattle.evenodd.specs.Changes.{verdictOf, cellRules, Changes}
 use Rattle.evenodd.specs.ChangesAll.{rulesOf, ItemChanged, ChangesAll}
 use Rattle.evenodd.specs.Determined.{ChangesOne}
-use Rattle.evenodd.specs.EndToEnd.{Edited, ManyAsOneByOne, ItemAsChange, SevenOrEleven, NothingToChange, LastValueStands, ManyAsEncode, ManyKeepBroken}
+use Rattle.evenodd.specs.EndToEnd.{Edited, ManyAsOneByOne, ItemAsChange, SevenOrEleven, NothingToChange, LastValueStands, ManyAsEncode, ManyKeepBroken, ManyKeepBlame}
 use Rattle.evenodd.proofs.Changed.{Fitting, change-given}
 use Rattle.evenodd.proofs.Determined.{changes-one}
-use Rattle.evenodd.proofs.AfterChange.{done-of, done, left-stripe, same-broken, same-checks}
+use Rattle.evenodd.proofs.AfterChange.{done-of, done, left-stripe, same-broken, same-checks, same-blame}
 
 module _ (m k b : ℕ) (columns rows cells : List ℕ) where
   -- the steps on the way
@@ -184,6 +184,11 @@ many-keep-broken m k b columns rows cells s after p = (
 
     same : SameAmounts m k b s after
     same = amounts-along m k b columns rows cells (length columns) s after (p .left)
+
+pub many-keep-blame : ManyKeepBlame
+unfolding ManyKeepBlame
+many-keep-blame m k b columns rows cells s after r q ps small p pr pq =
+    same-blame m k b s after r q ps (still-stripe m k b columns rows cells s after p ps small) (amounts-along m k b columns rows cells (length columns) s after (p .left)) pr pq
 
 -- ---- where an item is refused
 

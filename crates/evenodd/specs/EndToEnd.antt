@@ -33,6 +33,7 @@
 --   LastValueStands    a cell of the data holds the bytes of the last item that names it, and one that no item names is as it was
 --   ManyAsEncode       a valid stripe becomes what encode makes of its data with these cells edited in list order
 --   ManyKeepBroken     every equation is broken by the amount by which it was; so check counts the same, and a stripe is valid exactly when it was
+--   ManyKeepBlame      locate names the column that it named, or none as before, and gives 6 exactly where it did
 -- Where exactly two columns of a valid stripe were changed (`TwoChanged`):
 --   SixOrAThird        check says neither intact nor blank and is not refused, and locate gives 6 or names a column that is neither of the two
 --   AnyThirdNamed      it can be any third that is named, whatever the stripe and whichever the two
@@ -280,6 +281,11 @@ ManyKeepBroken = (m k b : ℕ) (columns rows cells s after : List ℕ) → Chang
     → SameAmounts m k b s after × SameBroken m k b s after
     × ((r q : Checked) → Checks m k b s r → Checks m k b after q → (rowsOf r ≡ rowsOf q) × (diagonalsOf r ≡ diagonalsOf q))
     × (Stripe m k b s → ((x : ℕ) → getD cells x 0 < 256) → Valid m k b s ↔ Valid m k b after)
+
+unfoldable pub ManyKeepBlame : Type 0
+ManyKeepBlame = (m k b : ℕ) (columns rows cells s after : List ℕ) (r q : Located) → Stripe m k b s → ((x : ℕ) → getD cells x 0 < 256)
+    → ChangesAll m k b columns rows cells s after changedAll.Done → Locates m k b s r → Locates m k b after q
+    → ((u : ℕ) → (r ≡ located.Column u) ↔ (q ≡ located.Column u)) × ((r ≡ located.Refused Unmendable) ↔ (q ≡ located.Refused Unmendable))
 
 unfoldable pub SixOrAThird : Type 0
 SixOrAThird = (m k b x y : ℕ) (s wrong : List ℕ) (r : Checked) (q : Located) → Shape m k b → TwoChanged m k b x y s wrong → Checks m k b wrong r → Locates m k b wrong q

@@ -43,16 +43,22 @@ fn image_cases(out: &mut [u8], at: usize) -> usize {
     others::headers(out, b)
 }
 
+// Blank stripes, two wrong columns, changed cells, and lists of them.
+fn stripe_cases(out: &mut [u8], at: usize) -> usize {
+    let a = cases::blank_lines(out, at);
+    let b = cases::two_wrong_lines(out, a);
+    let c = change_cases::change_lines(out, b);
+    list_cases::list_lines(out, c)
+}
+
 fn main() {
-    let mut out = [0u8; 8192];
+    let mut out = [0u8; 12288];
     let first = proved_cases(&mut out, 0);
-    let second = cases::blank_lines(&mut out, first);
-    let third = cases::two_wrong_lines(&mut out, second);
-    let fourth = change_cases::change_lines(&mut out, third);
-    let fifth = cases::shape_lines(&mut out, fourth);
-    let sixth = other_cases(&mut out, fifth);
-    let end = image_cases(&mut out, sixth);
-    if end <= 8192 {
+    let second = stripe_cases(&mut out, first);
+    let third = cases::shape_lines(&mut out, second);
+    let fourth = other_cases(&mut out, third);
+    let end = image_cases(&mut out, fourth);
+    if end <= 12288 {
         io::write_all(1, &out[0..end]);
     }
 }

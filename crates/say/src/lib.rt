@@ -6,6 +6,7 @@ pub use images::contents_line;
 pub use images::read_line;
 pub use images::report_line;
 pub use operations::change_line;
+pub use operations::changes_line;
 pub use operations::check_line;
 pub use operations::encode_line;
 pub use operations::locate_line;

@@ -1,5 +1,6 @@
 // A line for each operation, in the form `CASE OPERATION ANSWER`. Each function answers the place after its text, which has a greatest length.
 use evenodd::Changed;
+use evenodd::ChangedAll;
 use evenodd::Checked;
 use evenodd::Encoded;
 use evenodd::Located;
@@ -245,5 +246,35 @@ pub fn change_line(
     let first = say_head(out, at, name, b" change");
     let answer = evenodd::change(shape[0], shape[1], shape[2], stripe, column, row, cell);
     let second = say_changed(out, first, answer);
+    say_last(out, second, stripe)
+}
+
+fn say_changed_all(out: &mut [u8], at: usize, answer: ChangedAll) -> usize
+    ensures { λ r. ⌜ (at ≤ r) × (r ≤ at + 10) ⌝ }
+{
+    let item = answer.item();
+    match answer {
+        ChangedAll::Done => say_two(out, at, 0, item),
+        ChangedAll::Refused(f) => say_two(out, at, f.number() as usize, item),
+        ChangedAll::ItemRefused(_, f) => say_two(out, at, f.number() as usize, item),
+    }
+}
+
+// Changes cells: the answer, the item and the stripe.
+pub fn changes_line(
+    out: &mut [u8],
+    at: usize,
+    name: &[u8],
+    shape: [usize; 3],
+    stripe: &mut [u8],
+    columns: &[usize],
+    rows: &[usize],
+    cells: &[u8],
+) -> usize
+    ensures { λ r. ⌜ (at ≤ r) × (r ≤ at + (length (now (name .entry)) + 220)) ⌝ }
+{
+    let first = say_head(out, at, name, b" changes");
+    let answer = evenodd::changes(shape[0], shape[1], shape[2], stripe, columns, rows, cells);
+    let second = say_changed_all(out, first, answer);
     say_last(out, second, stripe)
 }
