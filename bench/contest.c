@@ -20,7 +20,7 @@ static void copy_cell(const struct shape *p, uint8_t *slot) {
     memcpy(slot + c.column * p->col + c.row * p->b, c.bytes, p->b);
 }
 
-enum { FIRST = OWNS, MEMCPY = FIRST + OTHERS, OWN, OWN_CHECK, RIVALS };
+enum { FIRST = OWNS, MEMCPY = FIRST + OTHERS, OWN, OWN_CHECK, OWN_CHANGE, RIVALS };
 #ifdef __x86_64__
 enum { PQ_TO_REACH = FIRST + PQ_SSE }; /* P+Q with the instructions that the library has too */
 #else
@@ -30,6 +30,7 @@ static struct rival rivals[RIVALS] = {
     [MEMCPY] = {"memcpy", PACKED, {copy, copy, copy, copy, copy, copy, copy, copy, copy, copy_cell, copy_cell}},
     [OWN] = {"own-encode", PACKED, {0}}, /* main gives it the library's encode beside every other operation */
     [OWN_CHECK] = {"own-check", PACKED, {0}}, /* and this the library's check beside INTACT, BLANK and BLANK_LOCATE */
+    [OWN_CHANGE] = {"own-change", PACKED, {[CHANGES] = calls_any, [CHANGES_APPEND] = calls_append, [CHANGES_S] = calls_s}},
 };
 
 /* The ratio that an operation is to reach, hot; 0 where there is none. */
@@ -39,6 +40,7 @@ static double goal(const struct shape *p, enum op op, int rival) {
     if (op == ENCODE && rival == REGISTERS) return wide ? 0.9 : 0;
     if (op == ENCODE && rival == PQ_TO_REACH) return wide ? 1.0 : 0;
     if (op == TWO && rival == FIRST + EVENODD) return 2.0;
+    if (op >= CHANGES) return rival == OWN_CHANGE && ((p->m == 11 && p->b == 4096) || (p->m == 127 && p->b == 512)) ? 1 / 1.1 : 0;
     if (op == INTACT && rival == OWN_CHECK) return wide ? 0.97 : 0; /* 1, but for noise */
     if ((op == BLANK || op == BLANK_LOCATE) && rival == OWN_CHECK) return wide ? 1 / 1.3 : 0;
     if (op == INTACT || op == BLANK || op == BLANK_LOCATE || rival != OWN) return 0;
@@ -143,7 +145,7 @@ int main(int argc, char **argv) {
         }
     }
     printf("Time of each contestant divided by ours (above 1: ours is faster); - : no such operation there; ! : below the ratio to reach.\n");
-    printf("%-9s %-13s %-4s", "", "m,k,b", "");
+    printf("%-14s %-13s %-4s", "", "m,k,b", "");
     for (int r = PLAIN; r < RIVALS; r++) printf(" %11s", rivals[r].name);
     for (int op = 0; op < OPS; op++)
         for (int cold = 0; cold < 2; cold++)
@@ -152,7 +154,7 @@ int main(int argc, char **argv) {
                 struct shape p = shape_of(shapes[s]);
                 char name[32];
                 snprintf(name, sizeof name, "%zu,%zu,%zu", p.m, p.k, p.b);
-                printf("\n%-9s %-13s %-4s", op_name[op], name, cold ? "cold" : "hot");
+                printf("\n%-14s %-13s %-4s", op_name[op], name, cold ? "cold" : "hot");
                 for (int r = PLAIN; r < RIVALS; r++) {
                     double *t = best[s][op][cold], ratio = t[r] / t[OURS];
                     if (t[r] == 0) printf(" %10s ", "-");

@@ -12,7 +12,7 @@ void plain_change(size_t m, size_t k, size_t b, uint8_t *stripe, size_t column, 
 void registers_encode(size_t m, size_t k, size_t b, uint8_t *stripe);
 void registers_check(size_t m, size_t k, size_t b, const uint8_t *stripe, size_t *rows, size_t *diagonals);
 
-enum op { ENCODE, CHECK, ONE, TWO, INTACT, LOCATE, REWRITE, BLANK, BLANK_LOCATE, CHANGE, CHANGE_S, OPS };
+enum op { ENCODE, CHECK, ONE, TWO, INTACT, LOCATE, REWRITE, BLANK, BLANK_LOCATE, CHANGE, CHANGE_S, CHANGES, CHANGES_APPEND, CHANGES_S, OPS };
 
 /* A shape with what follows from it. Columns lie `col` bytes apart in pool PACKED, as the library wants them, and `pitch` bytes apart
    in pool PADDED, a multiple of 64, as ISA-L wants them. A slot of either is k+2 columns of a stripe and two of a bench. Pool WRONG is
@@ -52,6 +52,11 @@ struct cell {
     const uint8_t *bytes;
 };
 struct cell next_cell(const struct shape *, enum op);
+
+/* What CHANGES, CHANGES_APPEND and CHANGES_S do in one call, by 256 calls of change. The items of CHANGES are any cells, those of CHANGES_APPEND
+   follow each other, down each data column and on to the next, those of CHANGES_S lie on the diagonal of S. `shape_of` makes the lists; each time
+   other items are taken, and other bytes. */
+work calls_any, calls_append, calls_s;
 const char *own_check(const struct shape *, uint8_t *slot, uint8_t *good);
 
 /* rivals.c: codes of others. `rivals_prepare` makes their tables for a shape and clears the operations that they lack there;

@@ -8,7 +8,8 @@ const size_t shapes[SHAPES][3] = {
     {11, 10, 4096}, {17, 17, 4096}, {5, 5, 512},  {11, 10, 1000}, {7, 5, 100},   {13, 12, 64},  {11, 10, 16},    {61, 60, 4096},
     {127, 127, 512}, {11, 10, 1},   {5, 5, 4096}, {11, 10, 512},  {17, 17, 512}, {61, 60, 512}, {127, 127, 4096},
 };
-const char *const op_name[OPS] = {"encode", "check", "restore1", "restore2", "intact", "locate", "rewrite", "blank", "blank-loc", "change", "change-s"};
+const char *const op_name[OPS] = {"encode", "check", "restore1", "restore2", "intact", "locate", "rewrite", "blank", "blank-loc", "change", "change-s",
+                                  "changes", "changes-append", "changes-s"};
 
 uint8_t refused;
 static uint8_t one_lost[129], two_lost[129];
@@ -54,6 +55,41 @@ static void our_change_next(const struct shape *p, uint8_t *slot, enum op op) {
 }
 static void our_change(const struct shape *p, uint8_t *slot) { our_change_next(p, slot, CHANGE); }
 static void our_change_s(const struct shape *p, uint8_t *slot) { our_change_next(p, slot, CHANGE_S); }
+/* The lists are longer than a call takes, and `first` is where its 256 items begin, and their bytes. */
+enum { ITEMS = 256, FIRSTS = 4096 };
+static size_t list_columns[3][FIRSTS + ITEMS], list_rows[3][FIRSTS + ITEMS], first;
+static uint8_t list_bytes[FIRSTS + ITEMS * 4096];
+static void make_lists(const struct shape *p) {
+    size_t cells = p->k * (p->m - 1);
+    uint64_t x = 1;
+    for (size_t n = 0; n < FIRSTS + ITEMS; n++) {
+        x = x * 6364136223846793005u + 1442695040888963407u;
+        size_t s = 1 + n % (p->k - 1), cell[] = {(x >> 33) % cells, n % cells, s * (p->m - 1) + p->m - 1 - s};
+        for (int i = 0; i < 3; i++) list_columns[i][n] = cell[i] / (p->m - 1), list_rows[i][n] = cell[i] % (p->m - 1);
+    }
+    for (size_t j = 0; j < sizeof list_bytes; j++) {
+        x = x * 6364136223846793005u + 1442695040888963407u;
+        list_bytes[j] = (uint8_t)(x >> 56);
+    }
+}
+static void our_list(const struct shape *p, uint8_t *slot, enum op op) {
+    const size_t *columns = list_columns[op - CHANGES] + first, *rows = list_rows[op - CHANGES] + first;
+    refused |= oarwillow_changes(p->m, p->k, p->b, slot, length(p), columns, ITEMS, rows, ITEMS, list_bytes + first, ITEMS * p->b, &got[0]);
+    refused |= got[0] != 256;
+    first = (first + 251) % FIRSTS;
+}
+static void our_calls(const struct shape *p, uint8_t *slot, enum op op) {
+    const size_t *columns = list_columns[op - CHANGES] + first, *rows = list_rows[op - CHANGES] + first;
+    for (size_t n = 0; n < ITEMS; n++)
+        refused |= oarwillow_change(p->m, p->k, p->b, slot, length(p), columns[n], rows[n], list_bytes + first + n * p->b, p->b);
+    first = (first + 251) % FIRSTS;
+}
+static void our_changes(const struct shape *p, uint8_t *slot) { our_list(p, slot, CHANGES); }
+static void our_changes_append(const struct shape *p, uint8_t *slot) { our_list(p, slot, CHANGES_APPEND); }
+static void our_changes_s(const struct shape *p, uint8_t *slot) { our_list(p, slot, CHANGES_S); }
+void calls_any(const struct shape *p, uint8_t *slot) { our_calls(p, slot, CHANGES); }
+void calls_append(const struct shape *p, uint8_t *slot) { our_calls(p, slot, CHANGES_APPEND); }
+void calls_s(const struct shape *p, uint8_t *slot) { our_calls(p, slot, CHANGES_S); }
 static void c_change_next(const struct shape *p, uint8_t *slot, enum op op) {
     struct cell c = next_cell(p, op);
     plain_change(p->m, p->k, p->b, slot, c.column, c.row, c.bytes);
@@ -68,7 +104,7 @@ static void r_check(const struct shape *p, uint8_t *slot) { registers_check(p->m
 
 struct rival owns[OWNS] = {
     [OURS] = {"ours", PACKED, {our_encode, our_check, our_one, our_two, our_intact, our_locate, our_rewrite, our_blank, our_blank_locate,
-                               our_change, our_change_s}},
+                               our_change, our_change_s, our_changes, our_changes_append, our_changes_s}},
     [PLAIN] = {"plain", PACKED, {[ENCODE] = c_encode, [CHECK] = c_check, [TWO] = c_two, [CHANGE] = c_change, [CHANGE_S] = c_change_s}},
     [REGISTERS] = {"registers", PACKED, {r_encode, r_check}},
 };
@@ -80,6 +116,7 @@ struct shape shape_of(const size_t *s) {
         one_lost[t] = t < p.k + 2 && t != p.w;
         two_lost[t] = t < p.k + 2 && t != p.u && t != p.v;
     }
+    make_lists(&p);
     return p;
 }
 
@@ -151,6 +188,19 @@ const char *own_check(const struct shape *p, uint8_t *slot, uint8_t *good) {
             int wrong = memcmp(slot, changed, n) || !memcmp(slot, good, n);
             free(changed);
             if (wrong) return "change";
+            memcpy(slot, good, n);
+        }
+        if (run[CHANGES]) { /* a list leaves the stripe that calls of change leave */
+            uint8_t *changed = malloc(n);
+            int wrong = 0;
+            for (enum op op = CHANGES; op <= CHANGES_S; op++) {
+                memcpy(changed, good, n), memcpy(slot, good, n);
+                first = 0, our_calls(p, changed, op);
+                first = 0, our_list(p, slot, op);
+                wrong |= memcmp(slot, changed, n) || !memcmp(slot, good, n);
+            }
+            free(changed);
+            if (wrong) return "changes";
             memcpy(slot, good, n);
         }
         if (refused) return "an answer";
