@@ -143,12 +143,14 @@ uint8_t oarwillow_change(size_t m, size_t k, size_t b, uint8_t *stripe, size_t s
  * are the b bytes of `cells` from n * b on. Where all pass, the stripe is what oarwillow_change would leave of it, called with the items
  * one at a time in list order: a cell that is named twice ends with the later bytes. Where one would be refused, nothing is changed, and
  * `item` is the number of the first such item, counted from 0; it is 256 where no item is refused: where the call passes, and on 1, 12,
- * 13, 2 and 15. Every item is judged before the first byte is written. An empty list with no bytes passes and changes nothing.
+ * 13, 2 and 15. Every item is judged before the first byte is written. For a right stripe an empty list with no bytes passes and changes
+ * nothing.
  *
- * What is said of oarwillow_change holds of each item. Cells on the diagonal of S change every cell of D: that is done once for all of
- * them. No byte is read or written but those of cells that an item names, or that depend on one. What D is to get is gathered in 4,096
- * bytes of the stack, which are cleared first: for a single cell oarwillow_change is the quicker call. Refusals: 1, 12, 13, 2, then 15,
- * then by item 7 for a column not below k and 11. */
+ * What is said of oarwillow_change holds of each item: every column that an item names must have been read, or copied to its place after
+ * it was restored. Cells on the diagonal of S change every cell of D: what they add to D is gathered in 4,096 bytes of the stack, which
+ * are cleared first, and added once. Of the stripe no byte is read or written but those of cells that an item names, or that depend on
+ * one. For one cell, or a few, oarwillow_change is as quick or quicker. Refusals: 1, 12, 13, 2, 15, then of each item in turn 7 for a
+ * column not below k, and 11. */
 uint8_t oarwillow_changes(size_t m, size_t k, size_t b, uint8_t *stripe, size_t stripe_len, const size_t *columns, size_t columns_len,
                           const size_t *rows, size_t rows_len, const uint8_t *cells, size_t cells_len, size_t *item);
 

@@ -91,7 +91,7 @@ fn change_and_pay(
     }
 }
 
-// The cells that the lists name become those of `cells`, one after another: item n is row n of column n, and the b bytes from n * b on.
+// The cells that the lists name become those of `cells`, one after another: item n is row rows[n] of column columns[n], and the b bytes from n * b on.
 pub fn change_cells(s: &mut [u8], g: Grid, columns: &[usize], rows: &[usize], cells: &[u8])
     requires { ⌜ Laid g (now s) × ItemsFit g (now columns) (now rows) (now cells) ⌝ }
     ensures { λ _. ⌜ CellsChanged (g .m) (g .k) (g .b) (now (columns .entry)) (now (rows .entry)) (now (cells .entry)) (length (now (columns .entry))) (now (s .entry)) (now (s .exit)) ⌝ }

@@ -32,7 +32,7 @@ use Rattle.evenodd.specs.declared.many_cells.ChangedAll.{ChangedAll}
 use Rattle.evenodd.specs.declared.many_cells.ChangedAll.the-variants as changedAll
 use Rattle.evenodd.specs.Encodes.{Encodes}
 use Rattle.evenodd.specs.Changes.{verdictOf, cellRules, Changes}
-use Rattle.evenodd.specs.ChangesAll.{rulesOf, ItemChanged, ChangesAll}
+use Rattle.evenodd.specs.ChangesAll.{changeRulesOf, ItemChanged, ChangesAll}
 use Rattle.evenodd.specs.Determined.{ChangesOne}
 use Rattle.evenodd.specs.EndToEnd.{Edited, ManyAsOneByOne, ItemAsChange, SevenOrEleven, NothingToChange, LastValueStands, ManyAsEncode, ManyKeepBroken, ManyKeepBlame}
 use Rattle.evenodd.proofs.Changed.{Fitting, change-given}
@@ -199,8 +199,8 @@ refused-of (changed.Refused g) f e = ap changed.Refused (refuse-one g f e)
 pub item-as-change : ItemAsChange
 unfolding ItemAsChange
 item-as-change m k b item columns rows cells s after f p n v q call = (
-  λ h. done-of q (gives-one (rulesOf m k b columns rows cells s n) _ _ (call .told) (p .told .1 .before n h)),
-  λ e. refused-of q f (gives-one (rulesOf m k b columns rows cells s n) _ _ (call .told) (rw e (p .told .1 .refused))),
+  λ h. done-of q (gives-one (changeRulesOf m k b columns rows cells s n) _ _ (call .told) (p .told .1 .before n h)),
+  λ e. refused-of q f (gives-one (changeRulesOf m k b columns rows cells s n) _ _ (call .told) (rw e (p .told .1 .refused))),
 )
 
 pub seven-or-eleven : SevenOrEleven
@@ -208,7 +208,7 @@ unfolding SevenOrEleven
 seven-or-eleven m k b item columns rows cells s after f p =
     (first .inside, omega (arith, first .inside, asked′ .2 .few), why (gives-rest (stripeRules m k b (length s)) (cellRules m k b (getD columns item 0) (getD rows item 0) (length (newCell b cells item))) (refuse f) stripe-fits (first .refused)))
   where
-    first : FirstRefused (rulesOf m k b columns rows cells s) (length columns) item f
+    first : FirstRefused (changeRulesOf m k b columns rows cells s) (length columns) item f
     first = p .told .1
 
     asked′ : Shape m k b × (length s ≡ stripeLength m k b) × Lists b (length columns) (length rows) (length cells)

@@ -46,7 +46,7 @@ use Rattle.evenodd.specs.declared.one_cell.Changed.the-variants as chang
 use Rattle.evenodd.specs.Changes.{changeRules}
 use Rattle.evenodd.specs.declared.many_cells.ChangedAll.{ChangedAll}
 use Rattle.evenodd.specs.declared.many_cells.ChangedAll.the-variants as changedAll
-use Rattle.evenodd.specs.ChangesAll.{rulesOf, ItemChanged, ChangesAll}
+use Rattle.evenodd.specs.ChangesAll.{changeRulesOf, ItemChanged, ChangesAll}
 use Rattle.evenodd.specs.Mends.{Mends}
 use denote.Ref.{RefT, now}
 use Rattle.evenodd.specs.declared.shows.Place.{Place}
@@ -245,14 +245,14 @@ changes-all-one m k b columns rows cells s x y r q p h = go r q p h
       order-one (ItemChanged m k b columns rows cells) (length columns) (λ i hi w u v a c. changes-one m k b _ _ _ w u v changed.Done changed.Done a c .1) s x y (p .left) (h .left),
     )
     go changedAll.Done (changedAll.Refused g) p h = absurd (passes-not g (answered _ _ (p .told .0) (h .told)))
-    go changedAll.Done (changedAll.ItemRefused j g) p h = absurd (first-not (rulesOf m k b columns rows cells s) (length columns) (p .told .1) (h .told .1))
+    go changedAll.Done (changedAll.ItemRefused j g) p h = absurd (first-not (changeRulesOf m k b columns rows cells s) (length columns) (p .told .1) (h .told .1))
     go (changedAll.Refused f) changedAll.Done p h = absurd (passes-not f (answered _ _ (h .told .0) (p .told)))
     go (changedAll.Refused f) (changedAll.Refused g) p h = (ap changedAll.Refused (refuse-one f g (answered _ _ (p .told) (h .told))), p .left ∙ sym (h .left))
     go (changedAll.Refused f) (changedAll.ItemRefused j g) p h = absurd (passes-not f (answered _ _ (h .told .0) (p .told)))
-    go (changedAll.ItemRefused i f) changedAll.Done p h = absurd (first-not (rulesOf m k b columns rows cells s) (length columns) (h .told .1) (p .told .1))
+    go (changedAll.ItemRefused i f) changedAll.Done p h = absurd (first-not (changeRulesOf m k b columns rows cells s) (length columns) (h .told .1) (p .told .1))
     go (changedAll.ItemRefused i f) (changedAll.Refused g) p h = absurd (passes-not g (answered _ _ (p .told .0) (h .told)))
     go (changedAll.ItemRefused i f) (changedAll.ItemRefused j g) p h =
-        let (item, refusal) = first-one (rulesOf m k b columns rows cells s) (length columns) (p .told .1) (h .told .1) in
+        let (item, refusal) = first-one (changeRulesOf m k b columns rows cells s) (length columns) (p .told .1) (h .told .1) in
         (ap₂ changedAll.ItemRefused item refusal, p .left ∙ sym (h .left))
 
 -- ---- what mend promised

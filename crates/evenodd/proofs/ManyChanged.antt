@@ -18,7 +18,7 @@ use Rattle.inputs.specs.Rules.{cellLengthDiffers, listRules, itemRules}
 use Rattle.inputs.specs.Lists as lists
 use Rattle.inputs.proofs.CellLists.{Lists, lists-passed, item-passes}
 use Rattle.evenodd.specs.declared.many_cells.ChangedAll.the-variants.{Done, Refused, ItemRefused}
-use Rattle.evenodd.specs.ChangesAll.{rulesOf, ItemChanged, ChangesAll}
+use Rattle.evenodd.specs.ChangesAll.{changeRulesOf, ItemChanged, ChangesAll}
 use Rattle.evenodd.proofs.Changed.{change-told, change-passed}
 
 module _ (m k b : ℕ) (columns rows cells s : List ℕ) where
@@ -26,7 +26,7 @@ module _ (m k b : ℕ) (columns rows cells s : List ℕ) where
   lists-refused told = record { told = told; left = refl }
 
   module _ (shape : Shape m k b) (whole : length s ≡ stripeLength m k b) (right : Lists b (length columns) (length rows) (length cells)) where
-    item-asked : (i : ℕ) → i < length columns → (v : Verdict) → Gives (lists.rulesOf m k columns rows i) v → Gives (rulesOf m k b columns rows cells s i) v
+    item-asked : (i : ℕ) → i < length columns → (v : Verdict) → Gives (lists.rulesOf m k columns rows i) v → Gives (changeRulesOf m k b columns rows cells s i) v
     item-asked i h v g = change-told m k b (getD columns i 0) (getD rows i 0) (newCell b cells i) s shape whole (longer v g)
       where
         longer : (v : Verdict) → Gives (lists.rulesOf m k columns rows i) v → Gives (itemRules m k (getD columns i 0) (getD rows i 0) ++ (cellLengthDiffers b (length (newCell b cells i)) ∷ [])) v
@@ -37,7 +37,7 @@ module _ (m k b : ℕ) (columns rows cells s : List ℕ) where
     passed = lists-passed m k b (length s) (length columns) (length rows) (length cells) shape whole right
 
     pub one-refused : {item : ℕ} {f : Refusal} → FirstRefused (lists.rulesOf m k columns rows) (length columns) item f → ChangesAll m k b columns rows cells s s (ItemRefused item f)
-    one-refused first = record { told = (passed, first-instead (lists.rulesOf m k columns rows) (rulesOf m k b columns rows cells s) (length columns) item-asked first); left = refl }
+    one-refused first = record { told = (passed, first-instead (lists.rulesOf m k columns rows) (changeRulesOf m k b columns rows cells s) (length columns) item-asked first); left = refl }
 
     module _ (each : EachPasses (lists.rulesOf m k columns rows) (length columns)) where
       pub all-named : (i : ℕ) → i < length columns → (getD columns i 0 < k) × (getD rows i 0 < m - 1)
@@ -62,6 +62,6 @@ module _ (m k b : ℕ) (columns rows cells s : List ℕ) where
 
       pub all-changed : (after : List ℕ) → CellsChanged m k b columns rows cells (length columns) s after → ChangesAll m k b columns rows cells s after Done
       all-changed after changed = record {
-        told = (passed, each-instead (lists.rulesOf m k columns rows) (rulesOf m k b columns rows cells s) (length columns) item-asked each);
+        told = (passed, each-instead (lists.rulesOf m k columns rows) (changeRulesOf m k b columns rows cells s) (length columns) item-asked each);
         left = kept-along (λ w. length w ≡ length s) (λ i. CellChanged m k b (getD columns i 0) (getD rows i 0) (newCell b cells i)) (ItemChanged m k b columns rows cells) (length columns) as-change s after refl changed .1;
       }

@@ -28,8 +28,8 @@ impl ChangedAll {
     }
 }
 
-// Changes up to 256 cells of data columns in list order, as change does one: item n is row n of column n, and its new bytes are the b bytes of `cells` from n * b on. Every item
-// is judged before the first byte is written: all are changed, or none is.
+// Changes up to 256 cells of data columns in list order, as change does one. Item n is row rows[n] of column columns[n], and its new bytes are the b bytes of `cells` from
+// n * b on. Every item is judged before the first byte is written: all are changed, or none is.
 pub fn changes(
     m: usize,
     k: usize,

@@ -14,7 +14,7 @@ use Rattle.evenodd.specs.Changes.{changeRules}
 use Rattle.evenodd.specs.declared.many_cells.ChangedAll.{ChangedAll}
 use Rattle.evenodd.specs.declared.many_cells.ChangedAll.the-variants as changedAll
 use Rattle.evenodd.specs.ChangesAll as all
-use Rattle.evenodd.specs.ChangesAll.{rulesOf, ChangesAll}
+use Rattle.evenodd.specs.ChangesAll.{changeRulesOf, ChangesAll}
 use Rattle.refusals.specs.Refusals.{answerNumber}
 use Rattle.image.specs.Reads.{contentsRules, readRules}
 use Rattle.refusals.proofs.Rules.{never-number, equal-of}
@@ -144,7 +144,7 @@ never-lying = (encoded, checked, located, rewritten, changed, all-changed, said,
     never-all m k b s after columns rows cells (changedAll.Refused f) p e =
         never-number 17 (listRules m k b (length s) (length columns) (length rows) (length cells)) _ (omega arith) (λ q. absurd (omega arith), (λ q. absurd (omega arith), (λ q. absurd (omega arith), (λ q. absurd (omega arith), (λ q. absurd (omega arith), tt))))) (p .told) e
     never-all m k b s after columns rows cells (changedAll.ItemRefused i f) p e =
-        never-number 17 (rulesOf m k b columns rows cells s i) _ (omega arith) (λ q. absurd (omega arith), (λ q. absurd (omega arith), (λ q. absurd (omega arith), (λ q. absurd (omega arith), (λ q. absurd (omega arith), (λ q. absurd (omega arith), (λ q. absurd (omega arith), tt))))))) (p .told .1 .refused) e
+        never-number 17 (changeRulesOf m k b columns rows cells s i) _ (omega arith) (λ q. absurd (omega arith), (λ q. absurd (omega arith), (λ q. absurd (omega arith), (λ q. absurd (omega arith), (λ q. absurd (omega arith), (λ q. absurd (omega arith), (λ q. absurd (omega arith), tt))))))) (p .told .1 .refused) e
 
     all-changed : (m k b : ℕ) (s after columns rows cells : List ℕ) (x r : ℕ) → ChangesGives m k b s after columns rows cells x r → r ≢ 17
     all-changed m k b s after columns rows cells x r p e = never-all m k b s after columns rows cells (p .answer) (p .meets) (sym (p .number) ∙ e)

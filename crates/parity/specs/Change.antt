@@ -6,8 +6,8 @@
 --   CellChanged m k b column row cell s v
 --                                v is s with that cell changed to `cell`: it holds these bytes, every equation is broken by the same amount as before, and
 --                                every cell that does not depend on it is as it was
--- And what it is to change several, one after another. Item n of the lists is the cell in row n of `rows` of column n of `columns`; its new bytes are b of
--- `cells`, where those of all items stand end to end.
+-- And what it is to change several, one after another. Items count from 0: item n is the cell whose column is number n of `columns` and whose row is
+-- number n of `rows`; its new bytes are b of `cells`, where those of all items stand end to end.
 --   newCell b cells n            the new bytes of item n
 --   InOrder step n s v           the steps 0 to n - 1 lead from s to v, one after another
 --   CellsChanged m k b columns rows cells n s v
