@@ -62,14 +62,12 @@ static uint8_t list_bytes[FIRSTS + ITEMS * 4096];
 static void make_lists(const struct shape *p) {
     size_t cells = p->k * (p->m - 1);
     uint64_t x = 1;
-    for (size_t n = 0; n < FIRSTS + ITEMS; n++) {
+    for (size_t n = 0; n < sizeof list_bytes; n++) {
         x = x * 6364136223846793005u + 1442695040888963407u;
+        list_bytes[n] = (uint8_t)(x >> 56);
+        if (n >= FIRSTS + ITEMS) continue;
         size_t s = 1 + n % (p->k - 1), cell[] = {(x >> 33) % cells, n % cells, s * (p->m - 1) + p->m - 1 - s};
         for (int i = 0; i < 3; i++) list_columns[i][n] = cell[i] / (p->m - 1), list_rows[i][n] = cell[i] % (p->m - 1);
-    }
-    for (size_t j = 0; j < sizeof list_bytes; j++) {
-        x = x * 6364136223846793005u + 1442695040888963407u;
-        list_bytes[j] = (uint8_t)(x >> 56);
     }
 }
 static void our_list(const struct shape *p, uint8_t *slot, enum op op) {
