@@ -186,7 +186,7 @@ of-grown m k b t i s v new big few ht hi size grown = record {
   stays = λ l r x hl hr hx e. grown l r x hl hr hx ∙ ap (λ (y : Bool). lane m b s l r x ⊕ cond y (lane m b s l i t ⊕ getD new l 0) 0) e ∙ ⊕-zero (lane m b s l r x);
 }
 
--- The same, told column by column: the cell's own, H, D and the others.
+-- So it is where that is known column by column: of the cell's own, H, D and the others.
 module _ (m k b t i : ℕ) (s v new : List ℕ) (big : 1 < m) (few : k ≤ m) (ht : t < k) (hi : i < m - 1) where
   -- what depends on the cell grows by what it changes by
   abbrev Grown : ℕ → ℕ → ℕ → Bool → Type 0
