@@ -4,7 +4,6 @@
 --   FirstOutside               the first item that names none; how many items there are, where each names one
 --   rulesOf m k columns rows   what each item is asked
 --   JudgesItems                the items, in their order: each passes, or the first that is refused, and why
-use mathlib.Core.Path.{_≡_}
 use mathlib.Core.List.{List}
 use Prim.Native.Nat.{ℕ, _-_, _≤_, _<_}
 use lib.ListN.{length, getD}

@@ -5,8 +5,8 @@ use refusals::Refusal;
 ghost use mathlib.Core.Path.{_≡_};
 ghost use mathlib.Core.Logic.{_↔_};
 ghost use mathlib.Core.Bool.{true};
-ghost use Prim.Native.Nat.{_-_, _≤_, _<_};
-ghost use lib.ListN.{length, getD};
+ghost use Prim.Native.Nat.{_≤_};
+ghost use lib.ListN.{length};
 ghost use Rattle.inputs.specs.Lists.{OfData, FirstOutside, JudgesLists, JudgesItems};
 
 // What is found of the items: each names a cell of the data; or the first that does not, and why.

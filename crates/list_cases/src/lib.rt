@@ -34,7 +34,7 @@ fn few(out: &mut [u8], at: usize) -> usize {
     )
 }
 
-// The same cell twice, and three times with others between.
+// One cell twice, and three times with others between.
 fn again(out: &mut [u8], at: usize) -> usize {
     let next = c1_lists(out, at, b"changes,twice", &[1, 1], &[1, 1], &[170u8, 255]);
     c1_lists(
