@@ -328,6 +328,16 @@ fn faults_of_list(shape: Shape, stripe: &[u8], columns: &[usize], rows: &[usize]
     holding(shape_faults(shape).into_iter().chain(others))
 }
 
+/// Which cells of H and D, by column and row, are not what the data gives.
+fn breaks_of(shape: Shape, stripe: &[u8]) -> impl Fn(usize, usize) -> bool + '_ {
+    let mut fitting = stripe.to_vec();
+    encode(shape, &mut fitting);
+    move |column, row| {
+        let cell = shape.cell_bytes(row, column);
+        fitting[cell.clone()] != stripe[cell]
+    }
+}
+
 fn kind_of_stripe(shape: Shape, stripe: &[u8]) -> &'static str {
     match check(shape, stripe).found {
         FOUND_BLANK => "zero",
@@ -617,13 +627,7 @@ impl Tally {
         if k == 1 { self.add("change k=1"); }
         if k == m { self.add("change k=m"); }
         if stripe_kind == "broken" {
-            // What the data gives, and where that is not what stands there.
-            let mut fitting = stripe.to_vec();
-            encode(shape, &mut fitting);
-            let breaks = |column: usize, row: usize| {
-                let cell = shape.cell_bytes(row, column);
-                fitting[cell.clone()] != stripe[cell]
-            };
+            let breaks = breaks_of(shape, stripe);
             let own_row = breaks(k, row);
             let own_diagonal = (0..m - 1).any(|i| (on_s || i == (column + row) % m) && breaks(k + 1, i));
             if own_row { self.add("change broken, own row"); }
@@ -704,12 +708,7 @@ impl Tally {
             if often { met.push("m=k=127, often on S".to_string()); }
         }
         if stripe_kind == "broken" {
-            let mut fitting = stripe.to_vec();
-            encode(shape, &mut fitting);
-            let breaks = |column: usize, row: usize| {
-                let cell = shape.cell_bytes(row, column);
-                fitting[cell.clone()] != stripe[cell]
-            };
+            let breaks = breaks_of(shape, stripe);
             let own_row = items.keys().any(|&(_, row)| breaks(k, row));
             let is_on = |cell: (usize, usize), i: usize| on_s(cell) || i == (cell.0 + cell.1) % m;
             let own_diagonal = items.keys().any(|&cell| (0..m - 1).any(|i| is_on(cell, i) && breaks(k + 1, i)));

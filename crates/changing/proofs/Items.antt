@@ -1,8 +1,7 @@
 -- Laws of lists of cells that are changed.
---   laid-along     a stripe of the same length is laid out as another
 --   item-within, item-most   where the new bytes of an item end
 --   changed-next   one item more, once paid
-use mathlib.Core.Path.{_≡_, _∙_}
+use mathlib.Core.Path.{_≡_}
 use mathlib.Core.List.{List}
 use Prim.Native.Nat.{ℕ, _+_, _-_, _*_, _≤_, _<_}
 use native.Mathlib.Nat.{mul-le-mul-right}
@@ -16,9 +15,6 @@ use Rattle.lines.specs.Lines.{Laid}
 use Rattle.changing.specs.Items.{ItemsFit}
 use Rattle.changing.specs.Owed.{OncePaid}
 use Rattle.changing.proofs.Owed.{once-then}
-
-pub laid-along : {g : Grid} {s v : List ℕ} → Laid g s → length v ≡ length s → Laid g v
-laid-along laid e = record { sized = laid .sized; some = laid .some; few = laid .few; whole = e ∙ laid .whole }
 
 module _ {g : Grid} {columns rows cells : List ℕ} (items : ItemsFit g columns rows cells) where
   pub item-within : (n : ℕ) → n < length columns → n * g .b + g .b ≤ length cells

@@ -3,7 +3,7 @@
 --   summed-none, summed-next    no lane put, and lanes put after others: the sum is that of the stripe as it was
 --   put-summed, summed-end      lanes that were put as a run; lanes up to another number
 --   cell-summed                 a whole cell
---   laid-kept, group-kept       a stripe of the same length
+--   group-kept                  a stripe of the same length
 --   ready                       when a cell past the data columns is ready for a sum, which begins at `first` where it is fresh, else with the cell itself
 --   group-follows, line-places  a line can be followed through a group; the cells at the places that are found add up to it
 use mathlib.Core.Path.{_≡_, refl, sym, ap, ap₂, _∙_, subst}
@@ -20,7 +20,8 @@ use Rattle.parity.proofs.Sum.{sum-cong}
 use Rattle.cells.specs.Runs.{Put}
 use Rattle.cells.proofs.Parts.{part, by-order}
 use Rattle.lines.specs.declared.Grid.{Grid}
-use Rattle.lines.specs.Lines.{span, Laid}
+use Rattle.lines.proofs.Lines.{laid-kept}
+use Rattle.lines.specs.Lines.{span}
 use Rattle.lines.specs.Places.{without, total, Listed, Follows}
 use Rattle.lines.specs.Rows.{Room}
 use Rattle.lines.proofs.Places.{total-none, total-part, without-span}
@@ -88,9 +89,6 @@ cell-summed {s} {seed = seed} p so = record {
   before = λ v h. p .before v (omega arith);
   after = p .after;
 }
-
-pub laid-kept : {g : Grid} {s t : List ℕ} → length t ≡ length s → Laid g s → Laid g t
-laid-kept e p = record { sized = p .sized; some = p .some; few = p .few; whole = e ∙ p .whole }
 
 pub group-kept : {g : Grid} {x y : ℕ} {s t : List ℕ} → length t ≡ length s → Group g x y s → Group g x y t
 group-kept e p = record { laid = laid-kept e (p .laid); order = p .order; most = p .most; few = p .few }

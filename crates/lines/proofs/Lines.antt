@@ -7,13 +7,16 @@
 --   real-same, span-agree    a cell of a column, and one of another column that is the same; a span depends on the bytes of its own columns alone
 --   line-but                 a line is what is left of it without column u, and the byte in column u
 --   column-is, column-most, cell-room   a cell lies within its column, and a column is not long
+--   laid-kept                a stripe of the same length is laid out as another
 --   slant-next               what a slant adds up to, column by column
 use mathlib.Core.Path.{_≡_, sym, ap, ap₂, _∙_, subst}
+use mathlib.Core.List.{List}
 use Prim.Native.Nat.{ℕ, suc, _+_, _*_, _-_, _%_, _≤_, _<_}
 use native.Mathlib.Nat.{mod-lt, mod-eq-of-lt, add-mod-right, mod-add-mod, mul-le-mul, mul-le-mul-left, le-refl, le-trans}
 use native.Mathlib.Numerals.{add-one}
 use native.Mathlib.Decide.{le-ind}
 use native.Mathlib.Omega.{arith}
+use lib.ListN.{length}
 use borrow.Author.Tests.{lt-ltb, le-ltb}
 use Rattle.parity.specs.Xor.{_⊕_}
 use Rattle.parity.specs.Sum.{sum}
@@ -21,7 +24,8 @@ use Rattle.parity.specs.Shape.{columnLength}
 use Rattle.parity.specs.Equations.{Lane, back}
 use Rattle.parity.proofs.Xor.{⊕-assoc, ⊕-self, ⊕-cancel, zero-⊕}
 use Rattle.cells.proofs.Parts.{parts-end, by-order}
-use Rattle.lines.specs.Lines.{real, line, span, Sized}
+use Rattle.lines.specs.declared.Grid.{Grid}
+use Rattle.lines.specs.Lines.{real, line, span, Sized, Laid}
 
 pub up-around : (m e r : ℕ) → r < e → e ≤ m → r + m - e ≡ back m r e
 unfolding back
@@ -103,6 +107,9 @@ module _ (m b c : ℕ) (z : Sized m b c) where
 
   pub cell-room : (r j n : ℕ) → r < m - 1 → j + n ≤ b → r * b + j + n ≤ c
   cell-room r j n h k = omega (arith, column-is, parts-end b h)
+
+pub laid-kept : {g : Grid} {s t : List ℕ} → length t ≡ length s → Laid g s → Laid g t
+laid-kept e p = record { sized = p .sized; some = p .some; few = p .few; whole = e ∙ p .whole }
 
 -- what a slant adds up to, column by column
 module _ (e y m : ℕ) (within : e * y ≤ m) where

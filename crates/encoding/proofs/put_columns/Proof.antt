@@ -7,7 +7,7 @@ use borrow.Rule.Slice.PartMut.{putMid}
 use Rattle.cells.proofs.Puts.{put-count, put-cleared}
 use Rattle.lines.proofs.Turned.{last-cell}
 use Rattle.encoding.specs.Sums.{Grown}
-use Rattle.encoding.proofs.Values.{laid-kept}
+use Rattle.lines.proofs.Lines.{laid-kept}
 use Rattle.encoding.proofs.Rows.{grown-join}
 use Rattle.encoding.proofs.Columns.{grown-begin, spread-grown}
 use borrow.Author.Needs.{needs}

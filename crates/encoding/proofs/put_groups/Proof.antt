@@ -5,7 +5,7 @@ use Prim.Native.Nat.{ℕ, _≤_, _<_, _-_}
 use lib.ListN.{length}
 use denote.Ref.{now}
 use Rattle.encoding.specs.Sums.{Grown}
-use Rattle.encoding.proofs.Values.{laid-kept}
+use Rattle.lines.proofs.Lines.{laid-kept}
 use Rattle.encoding.proofs.Rows.{grown-group}
 use borrow.Author.Needs.{needs}
 use native.Mathlib.Omega.{arith}

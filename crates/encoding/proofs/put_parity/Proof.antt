@@ -1,5 +1,5 @@
 -- `encoding::put_parity` meets its contract: S is put into D's last cell, and then both columns are made, in one of two ways.
-use Rattle.encoding.proofs.Values.{laid-kept}
+use Rattle.lines.proofs.Lines.{laid-kept}
 use Rattle.encoding.proofs.Rows.{encoded}
 use borrow.Author.Needs.{needs}
 use Rattle.encoding.proofs.put_parity.Statement.{statement}

@@ -8,7 +8,8 @@ use Rattle.parity.specs.Stripe.{lane}
 use Rattle.cells.specs.Runs.{Put}
 use Rattle.lines.specs.Lines.{line}
 use Rattle.lines.proofs.Turned.{last-cell}
-use Rattle.encoding.proofs.Values.{laid-kept, ready}
+use Rattle.lines.proofs.Lines.{laid-kept}
+use Rattle.encoding.proofs.Values.{ready}
 use Rattle.encoding.proofs.Rows.{sum-group}
 use borrow.Author.Needs.{needs}
 use native.Mathlib.Omega.{arith}

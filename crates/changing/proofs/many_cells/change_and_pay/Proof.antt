@@ -3,7 +3,7 @@ use mathlib.Core.Path.{_∙_}
 use denote.Ref.{now}
 use borrow.Author.Needs.{needs}
 use borrow.Author.Tests.{not-false}
-use Rattle.changing.proofs.Items.{laid-along}
+use Rattle.lines.proofs.Lines.{laid-kept}
 use Rattle.changing.proofs.Owed.{paid-none}
 use Rattle.changing.proofs.many_cells.change_and_pay.Statement.{statement}
 use Rattle.changing.proofs.many_cells.change_and_pay.Tie as tie
@@ -18,7 +18,7 @@ pay-requires : tie.Need-pay-requires
 pay-requires c κs =
     let z = c .before .before .before .before .before .before .before .before .before .before .before .before .before .before .before .before .before in
     let items = c .before .before .before .before .before .before .before .before .before .change-items .ensures in
-    (laid-along (z .pre .0) (items .size), items .room ∙ z .pre .1)
+    (laid-kept (items .size) (z .pre .0), items .room ∙ z .pre .1)
 
 same-length : tie.Need-same-length
 same-length c = search needs

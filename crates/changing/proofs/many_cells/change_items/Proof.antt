@@ -9,7 +9,8 @@ use Rattle.parity.specs.Change.{CellsChanged}
 use Rattle.parity.proofs.InOrder.{no-step}
 use Rattle.cells.proofs.Parts.{part-size}
 use Rattle.changing.specs.Owed.{OncePaid}
-use Rattle.changing.proofs.Items.{laid-along, item-within, item-most, changed-next}
+use Rattle.lines.proofs.Lines.{laid-kept}
+use Rattle.changing.proofs.Items.{item-within, item-most, changed-next}
 use Rattle.changing.proofs.Owed.{once-none}
 use Rattle.changing.proofs.many_cells.change_items.Statement.{statement}
 use Rattle.changing.proofs.many_cells.change_items.Tie as tie
@@ -63,7 +64,7 @@ change-item-requires c κs =
     let y = c .before .before .before .before .before .before .loop in
     let taken = c .before .before .before .before .before .loop-test .taken in
     let (column, row) = z .pre .2 .inside (y .n) taken in
-    (laid-along (z .pre .0) (y .inv .2 .size), y .inv .2 .room ∙ z .pre .1, column, row, part-size (now (z .args .cells)) _ (z .args .g .b) (omega (arith, item-within (z .pre .2) (y .n) taken)))
+    (laid-kept (y .inv .2 .size) (z .pre .0), y .inv .2 .room ∙ z .pre .1, column, row, part-size (now (z .args .cells)) _ (z .args .g .b) (omega (arith, item-within (z .pre .2) (y .n) taken)))
 
 add-n : tie.Need-add-n Inv-loop μ-loop
 add-n c = search needs
@@ -78,7 +79,7 @@ loop-again c =
     let y = c .before .before .before .before .before .before .before .before .before .before .before .loop in (
       refl,
       omega (arith, c .before .before .before .before .before .before .before .before .before .before .loop-test .taken),
-      changed-next (laid-along (z .pre .0) (y .inv .2 .size)) (now (a .columns)) (now (a .rows)) (now (a .cells)) (y .n) (y .inv .2) (c .before .before .before .before .change-item .ensures),
+      changed-next (laid-kept (y .inv .2 .size) (z .pre .0)) (now (a .columns)) (now (a .rows)) (now (a .cells)) (y .n) (y .inv .2) (c .before .before .before .before .change-item .ensures),
     )
 
 same-length : tie.Need-same-length Inv-loop μ-loop
