@@ -14,20 +14,19 @@ use Rattle.parity.proofs.Columns.{same-column}
 use Rattle.parity.proofs.Change.{by-cell, data-stays, same-data-amounts, amounts-back, amounts-both}
 use Rattle.parity.proofs.InOrder.{order-one}
 use Rattle.parity.proofs.Stripes.{stripe-determined}
-use Rattle.parity.proofs.Theorems.{frame, served, at-most-one, absent-unread, one-wrong}
-use Rattle.inputs.specs.Rules.{tooManyAbsent, contradicted, unmendable, stripeRules, lentRules, gapRules, restoreRules, showRules, listRules}
+use Rattle.parity.proofs.Theorems.{frame, served, at-most-one, absent-unread}
+use Rattle.inputs.specs.Rules.{tooManyAbsent, contradicted, stripeRules, lentRules, gapRules, restoreRules, showRules, listRules}
 use Rattle.refusals.proofs.Rules.{passes-not, refuse-one, gives-one, passed-first, gives-passed, gives-instead, first-not, first-one}
 use Rattle.inputs.proofs.Stripe.{stripe-given}
 use Rattle.evenodd.specs.declared.checks.Checked.{Checked}
 use Rattle.evenodd.specs.declared.checks.Checked.the-variants as checked
 use Rattle.evenodd.specs.declared.encodes.Encoded.the-variants as encoded
-use Rattle.evenodd.proofs.Located.{not-one}
 use Rattle.evenodd.proofs.Rewritten.{between, agrees-self, agrees-back, one-but}
 use Rattle.evenodd.proofs.Changed.{change-given}
 use Rattle.evenodd.proofs.Shown.{in-stripe, in-bench}
-use Rattle.evenodd.specs.Determined.{EncodesOne, ChecksOne, RestoresOne, RestoresUnread, LocatesOne, RewritesOne, leftOf, RewritesUnread, ChangesOne, ChangesAllOne, MendsOne, PlacesOne, SamePart, ShowsOne, PlacesUnread, ShowsUnread}
+use Rattle.evenodd.specs.Determined.{EncodesOne, ChecksOne, RestoresOne, RestoresUnread, LocatesOne, RewritesOne, leftOf, RewritesUnread, ChangesOne, ChangesAllOne, PlacesOne, SamePart, ShowsOne, PlacesUnread, ShowsUnread}
 use lib.ListN.{length}
-use Rattle.parity.specs.Theorems.{AtMostOne, AbsentUnread, OneWrong}
+use Rattle.parity.specs.Theorems.{AtMostOne, AbsentUnread}
 use Rattle.parity.proofs.Bytes.{stripe-ext}
 use Rattle.maps.proofs.Absent.{nth-one}
 use Rattle.maps.specs.declared.Map.{Map}
@@ -40,14 +39,13 @@ use Rattle.evenodd.specs.declared.rewrites.Rewritten.{Rewritten}
 use Rattle.evenodd.specs.declared.rewrites.Rewritten.the-variants as rewritten
 use Rattle.evenodd.specs.Restores.{Benched, RestoredFrom}
 use Rattle.evenodd.specs.Checks.{Checks}
-use Rattle.evenodd.specs.Locates.{locateRules, verdictOf, columnOf, Locates}
+use Rattle.evenodd.specs.Locates.{locateRules, Locates}
 use Rattle.evenodd.specs.Rewrites.{columnRules, rewriteRules, Rewrites}
 use Rattle.evenodd.specs.declared.one_cell.Changed.the-variants as changed
 use Rattle.evenodd.specs.Changes.{changeRules}
 use Rattle.evenodd.specs.declared.many_cells.ChangedAll.{ChangedAll}
 use Rattle.evenodd.specs.declared.many_cells.ChangedAll.the-variants as changedAll
 use Rattle.evenodd.specs.ChangesAll.{changeRulesOf, ItemChanged, ChangesAll}
-use Rattle.evenodd.specs.Mends.{Mends}
 use denote.Ref.{RefT, now}
 use Rattle.evenodd.specs.declared.shows.Place.{Place}
 use Rattle.evenodd.specs.declared.shows.Place.the-variants.{InStripe, InBench, Refused}
@@ -254,38 +252,6 @@ changes-all-one m k b columns rows cells s x y r q p h = go r q p h
     go (changedAll.ItemRefused i f) (changedAll.ItemRefused j g) p h =
         let (item, refusal) = first-one (changeRulesOf m k b columns rows cells s) (length columns) (p .told .1) (h .told .1) in
         (ap₂ changedAll.ItemRefused item refusal, p .left ∙ sym (h .left))
-
--- ---- what mend promised
-
-pub locate-passed : (m k b : ℕ) (s : List ℕ) → Gives (locateRules m k b s) pass → Shape m k b × (length s ≡ stripeLength m k b)
-locate-passed m k b s g = stripe-given m k b (length s) (gives-passed (stripeRules m k b (length s)) (unmendable m k b s ∷ []) g .0)
-
-module _ (m k b : ℕ) (s : List ℕ) where
-  -- one of two that names no column, and is not refused: the stripe is valid, so the other names none either, and both leave it as it was
-  none-named : {x y : List ℕ} (r q : Located) → verdictOf r ≡ pass → columnOf r ≡ 129 → Mends m k b s x r → Mends m k b s y q → (columnOf q ≡ 129) × (x ≡ y)
-  none-named r located.Intact e none p h = (refl, p .kept none ∙ sym (h .kept refl))
-  none-named r located.Blank e none p h = (refl, p .kept none ∙ sym (h .kept refl))
-  none-named {x} {y} r (located.Column v) e none p h =
-      absurd (not-one m k b (locate-passed m k b s (h .told) .0) s y v (h .named v refl) (rw (p .kept none) at (p .valid e)) (h .valid refl) (h .differed refl))
-  none-named r (located.Refused g) e none p h = absurd (passes-not g (sym e ∙ gives-one (locateRules m k b s) _ _ (p .told) (h .told)))
-
-  mends-alike : {x y : List ℕ} (r q : Located) → Mends m k b s x r → Mends m k b s y q → (columnOf r ≡ columnOf q) × (x ≡ y)
-  unfolding OneWrong
-  mends-alike located.Intact q p h = let (a, c) = none-named located.Intact q refl refl p h in (sym a, c)
-  mends-alike located.Blank q p h = let (a, c) = none-named located.Blank q refl refl p h in (sym a, c)
-  mends-alike (located.Column u) located.Intact p h = let (a, c) = none-named located.Intact (located.Column u) refl refl h p in (a, sym c)
-  mends-alike (located.Column u) located.Blank p h = let (a, c) = none-named located.Blank (located.Column u) refl refl h p in (a, sym c)
-  mends-alike {x} {y} (located.Column u) (located.Column v) p h =
-      one-wrong m k b (locate-passed m k b s (p .told) .0) s x y u v (p .named u refl) (h .named v refl) (p .valid refl) (h .valid refl) (p .differed refl) (h .differed refl)
-  mends-alike (located.Column u) (located.Refused g) p h = absurd (passes-not g (gives-one (locateRules m k b s) _ _ (p .told) (h .told)))
-  mends-alike (located.Refused f) located.Intact p h = absurd (passes-not f (gives-one (locateRules m k b s) _ _ (h .told) (p .told)))
-  mends-alike (located.Refused f) located.Blank p h = absurd (passes-not f (gives-one (locateRules m k b s) _ _ (h .told) (p .told)))
-  mends-alike (located.Refused f) (located.Column v) p h = absurd (passes-not f (gives-one (locateRules m k b s) _ _ (h .told) (p .told)))
-  mends-alike (located.Refused f) (located.Refused g) p h = (refl, p .kept refl ∙ sym (h .kept refl))
-
-pub mends-one : MendsOne
-unfolding MendsOne
-mends-one m k b s x y r q p h = let (column, left) = mends-alike m k b s r q p h in (gives-one (locateRules m k b s) _ _ (p .told) (h .told), column, left)
 
 -- ---- show
 

@@ -9,7 +9,3 @@ pub mod Changed
 pub mod ManyChanged
 pub mod Shown
 pub mod Determined
-pub mod EndToEnd
-pub mod TwoWrong
-pub mod AfterChange
-pub mod AfterMany

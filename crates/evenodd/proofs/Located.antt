@@ -1,4 +1,5 @@
 -- Laws of locate: what a suspect says of valid stripes.
+--   locate-passed     what locate passes is a stripe of a good shape
 --   not-one           a valid stripe does not differ from a valid one in exactly one column
 --   one-differs       the columns other than u fit, and the stripe is not valid: some valid stripe differs from it in exactly column u
 --   none-near         no column's others fit: no valid stripe differs in at most one column
@@ -16,7 +17,7 @@ use native.Mathlib.Omega.{arith}
 use lib.Dec.{eqb}
 use lib.ListN.{length}
 use borrow.Author.Tests.{eq-eqb, ne-eqb}
-use Rattle.parity.specs.Shape.{Shape}
+use Rattle.parity.specs.Shape.{Shape, stripeLength}
 use Rattle.parity.specs.Stripe.{lane, Stripe, Valid, Blank}
 use Rattle.parity.specs.Presence.{differs, differing, DifferIn}
 use Rattle.parity.specs.Candidate.{FitsBut}
@@ -31,10 +32,13 @@ use Rattle.refusals.specs.declared.Refusal.{Refusal}
 use Rattle.refusals.specs.declared.Refusal.the-variants.{Unmendable}
 use Rattle.refusals.specs.Refusals.{Verdict, pass, refuse, Gives}
 use Rattle.inputs.specs.Rules.{unmendable, stripeRules}
-use Rattle.refusals.proofs.Rules.{passes-not, gives-first, gives-next, gives-after}
-use Rattle.inputs.proofs.Stripe.{stripe-passed}
+use Rattle.refusals.proofs.Rules.{passes-not, gives-first, gives-next, gives-after, gives-passed}
+use Rattle.inputs.proofs.Stripe.{stripe-given, stripe-passed}
 use Rattle.evenodd.specs.declared.locates.Located.the-variants as located
 use Rattle.evenodd.specs.Locates.{locateRules, OneDiffers, Locates}
+
+pub locate-passed : (m k b : ℕ) (s : List ℕ) → Gives (locateRules m k b s) pass → Shape m k b × (length s ≡ stripeLength m k b)
+locate-passed m k b s g = stripe-given m k b (length s) (gives-passed (stripeRules m k b (length s)) (unmendable m k b s ∷ []) g .0)
 
 pub not-one : (m k b : ℕ) → Shape m k b → (s x : List ℕ) (u : ℕ) → u < k + 2 → Valid m k b s → Valid m k b x → DifferIn m k b (eqb u) s x → ⊥
 not-one m k b h s x u hu vs vx d =

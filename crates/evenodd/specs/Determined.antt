@@ -2,7 +2,6 @@
 -- Of a part that show hands out, the place and the bytes are determined: `SamePart`. The name under which the logic follows a reference is no part
 -- of the answer.
 --   EncodesOne, ChecksOne, RestoresOne, LocatesOne, RewritesOne, ChangesOne, ChangesAllOne, PlacesOne, ShowsOne    the promise of each call
---   MendsOne                     what mend promised, which no call promises: of the answer the number and the column, since mend did not tell blank from intact
 --   RestoresUnread               what stands in an absent column's place alters neither restore's answer nor the bench
 --   RewritesUnread               what stands in the column that is named alters neither rewrite's answer nor what it leaves
 --   PlacesUnread, ShowsUnread    no byte of stripe or bench alters where a column is shown: their lengths alone are asked
@@ -27,7 +26,6 @@ use Rattle.evenodd.specs.declared.one_cell.Changed.{Changed}
 use Rattle.evenodd.specs.Changes.{Changes}
 use Rattle.evenodd.specs.declared.many_cells.ChangedAll.{ChangedAll}
 use Rattle.evenodd.specs.ChangesAll.{ChangesAll}
-use Rattle.evenodd.specs.Mends.{Mends}
 use denote.Ref.{RefT, now}
 use Rattle.evenodd.specs.declared.shows.Place.{Place}
 use Rattle.evenodd.specs.Shows.{Places, Shows}
@@ -68,10 +66,6 @@ ChangesOne = (m k b column row : ℕ) (cell s x y : List ℕ) (r q : Changed)
 unfoldable pub ChangesAllOne : Type 0
 ChangesAllOne = (m k b : ℕ) (columns rows cells s x y : List ℕ) (r q : ChangedAll)
     → ChangesAll m k b columns rows cells s x r → ChangesAll m k b columns rows cells s y q → (r ≡ q) × (x ≡ y)
-
-unfoldable pub MendsOne : Type 0
-MendsOne = (m k b : ℕ) (s x y : List ℕ) (r q : Located) → Mends m k b s x r → Mends m k b s y q
-    → (verdictOf r ≡ verdictOf q) × (columnOf r ≡ columnOf q) × (x ≡ y)
 
 unfoldable pub PlacesOne : Type 0
 PlacesOne = (m k b : ℕ) (map : Map) (s bench : List ℕ) (column : ℕ) (r q : Place)

@@ -7,7 +7,5 @@ pub mod Locates
 pub mod Rewrites
 pub mod Changes
 pub mod ChangesAll
-pub mod Mends
 pub mod Shows
 pub mod Determined
-pub mod EndToEnd

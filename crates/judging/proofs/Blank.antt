@@ -21,7 +21,7 @@ use Rattle.parity.proofs.Theorems.{blank-holds}
 use Rattle.cells.specs.Runs.{Zeros}
 use Rattle.cells.proofs.Tells.{zeros-at}
 use Rattle.evenodd.specs.Shows.{half}
-use Rattle.evenodd.specs.EndToEnd.{Together}
+use Rattle.end_to_end.specs.OneOrNothing.{Together}
 use Rattle.judging.specs.Shown.{columnBytes, shown, ShownZeros}
 use Rattle.judging.specs.Theorems.{PresentZeros}
 

@@ -31,8 +31,8 @@ use Rattle.maps.specs.Truth.{TrueMap, absentByCount}
 use Rattle.inputs.specs.Rules.{stripeLengthDiffers, contradicted, gapRules}
 use Rattle.maps.specs.Maps.{New}
 use Rattle.evenodd.specs.Restores.{Restores}
-use Rattle.evenodd.specs.EndToEnd.{Together}
-use Rattle.evenodd.proofs.EndToEnd.{together}
+use Rattle.end_to_end.specs.OneOrNothing.{Together}
+use Rattle.end_to_end.proofs.OneOrNothing.{together}
 use Rattle.refusals.proofs.Rules.{passes-not, refuse-one, gives-first, gives-next, gives-one, gives-after, gives-passed, gives-rest}
 use Rattle.inputs.proofs.Tests.{gaps-passed}
 use Rattle.maps.proofs.Truth.{absent-counted}

@@ -24,20 +24,21 @@ use Rattle.refusals.proofs.Rules.{passes-not, refuse-one, gives-one, gives-firs
 use Rattle.inputs.specs.Rules.{wrongLists, stripeRules, listRules}
 use Rattle.inputs.proofs.Stripe.{stripe-passed, stripe-given}
 use Rattle.inputs.proofs.CellLists.{Lists, lists-given, lists-passed}
 use Rattle.evenodd.specs.declared.encodes.Encoded.{Encoded}
 use Rattle.evenodd.specs.declared.encodes.Encoded.the-variants as encoded
 use Rattle.evenodd.specs.declared.one_cell.Changed.{Changed}
 use Rattle.evenodd.specs.declared.one_cell.Changed.the-variants as changed
 use Rattle.evenodd.specs.declared.many_cells.ChangedAll.{ChangedAll}
 use Rattle.evenodd.specs.declared.many_cells.ChangedAll.the-variants as changedAll
 use Rattle.evenodd.specs.Encodes.{Encodes}
 use Rattle.evenodd.specs.Changes.{verdictOf, cellRules, Changes}
 use Rattle.evenodd.specs.ChangesAll.{changeRulesOf, ItemChanged, ChangesAll}
 use Rattle.evenodd.specs.Determined.{ChangesOne}
-use Rattle.evenodd.specs.EndToEnd.{Edited, ManyAsOneByOne, ItemAsChange, SevenOrEleven, NothingToChange, LastValueStands, ManyAsEncode, ManyKeepBroken, ManyKeepBlame}
+use Rattle.end_to_end.specs.OneChange.{Edited}
+use Rattle.end_to_end.specs.ManyChanges.{ManyAsOneByOne, ItemAsChange, SevenOrEleven, NothingToChange, LastValueStands, ManyAsEncode, ManyKeepBroken, ManyKeepBlame}
 use Rattle.evenodd.proofs.Changed.{Fitting, change-given}
 use Rattle.evenodd.proofs.Determined.{changes-one}
-use Rattle.evenodd.proofs.AfterChange.{done-of, done, left-stripe, same-broken, same-checks, same-blame}
+use Rattle.end_to_end.proofs.OneChange.{done-of, done, left-stripe, same-broken, same-checks, same-blame}
 
 module _ (m k b : ℕ) (columns rows cells : List ℕ) where
   -- the steps on the way

@@ -31,21 +31,23 @@ use Rattle.refusals.specs.Refusals.{Verdict, pass, refuse, Gives}
 use Rattle.refusals.proofs.Rules.{passes-not, refuse-one, gives-one, gives-instead}
 use Rattle.inputs.specs.Rules.{unmendable, stripeRules}
 use Rattle.inputs.proofs.Stripe.{stripe-passed}
 use Rattle.evenodd.specs.declared.one_cell.Changed.{Changed}
 use Rattle.evenodd.specs.declared.one_cell.Changed.the-variants as changed
 use Rattle.evenodd.specs.declared.encodes.Encoded.{Encoded}
 use Rattle.evenodd.specs.declared.encodes.Encoded.the-variants as encoded
 use Rattle.evenodd.specs.declared.checks.Checked.{Checked}
 use Rattle.evenodd.specs.declared.locates.Located.{Located}
 use Rattle.evenodd.specs.declared.locates.Located.the-variants as located
 use Rattle.evenodd.specs.Encodes.{Encodes}
 use Rattle.evenodd.specs.Checks.{rowsOf, diagonalsOf, Checks}
 use Rattle.evenodd.specs.Locates as locates
 use Rattle.evenodd.specs.Locates.{locateRules, OneDiffers, Locates}
 use Rattle.evenodd.specs.Changes.{verdictOf, changeRules, Changes}
-use Rattle.evenodd.specs.EndToEnd.{RestoreGivesBack, Edited, SameBroken, ChangeAdds, ChangeAsEncode, ChangeKeepsBroken, ChangeKeepsBlame, ChangeBack, ChangesCommute, ChangeAgain, ChangeWhileAbsent}
-use Rattle.evenodd.proofs.EndToEnd.{restore-gives-back, rewrite-leaves}
+use Rattle.end_to_end.specs.OneOrNothing.{RestoreGivesBack}
+use Rattle.end_to_end.specs.OneChange.{Edited, SameBroken, ChangeAdds, ChangeAsEncode, ChangeKeepsBroken, ChangeKeepsBlame, ChangeBack, ChangesCommute, ChangeAgain, ChangeWhileAbsent}
+use Rattle.end_to_end.proofs.OneOrNothing.{restore-gives-back}
+use Rattle.end_to_end.proofs.OneWrong.{rewrite-leaves}
 use Rattle.evenodd.proofs.Changed.{Fitting, change-given, change-passed}
 
 pub done-of : (q : Changed) → verdictOf q ≡ pass → q ≡ changed.Done
 done-of changed.Done e = refl
