@@ -10,11 +10,11 @@ use Rattle.parity.proofs.Theorems.{blank-valid, one-wrong}
 use Rattle.refusals.specs.Refusals.{pass}
 use Rattle.refusals.proofs.Rules.{passes-not, gives-one}
 use Rattle.inputs.proofs.Shape.{places-most}
-use Rattle.evenodd.specs.declared.locates.Located.{Located}
-use Rattle.evenodd.specs.declared.locates.Located.the-variants as located
-use Rattle.evenodd.specs.Locates.{locateRules, columnOf, Locates, verdictOf}
+use Rattle.checking.specs.declared.locates.Located.{Located}
+use Rattle.checking.specs.declared.locates.Located.the-variants as located
+use Rattle.checking.specs.Locates.{locateRules, columnOf, Locates, verdictOf}
 use Rattle.end_to_end.specs.Mends.{Mends, PairMends, MendsOne}
-use Rattle.evenodd.proofs.Located.{not-one, locate-passed}
+use Rattle.checking.proofs.Located.{not-one, locate-passed}
 use Rattle.parity.specs.Theorems.{OneWrong}
 use Rattle.end_to_end.proofs.OneWrong.{rewrite-named}
 

@@ -35,13 +35,13 @@ use Rattle.evenodd.specs.declared.one_cell.Changed.{Changed}
 use Rattle.evenodd.specs.declared.one_cell.Changed.the-variants as changed
 use Rattle.evenodd.specs.declared.encodes.Encoded.{Encoded}
 use Rattle.evenodd.specs.declared.encodes.Encoded.the-variants as encoded
-use Rattle.evenodd.specs.declared.checks.Checked.{Checked}
-use Rattle.evenodd.specs.declared.locates.Located.{Located}
-use Rattle.evenodd.specs.declared.locates.Located.the-variants as located
+use Rattle.checking.specs.declared.checks.Checked.{Checked}
+use Rattle.checking.specs.declared.locates.Located.{Located}
+use Rattle.checking.specs.declared.locates.Located.the-variants as located
 use Rattle.evenodd.specs.Encodes.{Encodes}
-use Rattle.evenodd.specs.Checks.{rowsOf, diagonalsOf, Checks}
-use Rattle.evenodd.specs.Locates as locates
-use Rattle.evenodd.specs.Locates.{locateRules, OneDiffers, Locates}
+use Rattle.checking.specs.Checks.{rowsOf, diagonalsOf, Checks}
+use Rattle.checking.specs.Locates as locates
+use Rattle.checking.specs.Locates.{locateRules, OneDiffers, Locates}
 use Rattle.evenodd.specs.Changes.{verdictOf, changeRules, Changes}
 use Rattle.end_to_end.specs.OneOrNothing.{RestoreGivesBack}
 use Rattle.end_to_end.specs.OneChange.{Edited, SameBroken, ChangeAdds, ChangeAsEncode, ChangeKeepsBroken, ChangeKeepsBlame, ChangeBack, ChangesCommute, ChangeAgain, ChangeWhileAbsent}

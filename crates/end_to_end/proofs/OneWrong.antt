@@ -23,17 +23,17 @@ use Rattle.refusals.specs.Refusals.{numberOf, pass, refuse, Gives}
 use Rattle.inputs.specs.Rules.{unmendable, stripeRules}
 use Rattle.refusals.proofs.Rules.{passes-not, refuse-one, gives-one, gives-first, gives-next, gives-after, gives-passed, gives-rest}
 use Rattle.inputs.proofs.Stripe.{stripe-given, stripe-passed}
-use Rattle.evenodd.specs.declared.locates.Located.{Located}
-use Rattle.evenodd.specs.declared.locates.Located.the-variants as located
+use Rattle.checking.specs.declared.locates.Located.{Located}
+use Rattle.checking.specs.declared.locates.Located.the-variants as located
 use Rattle.evenodd.specs.declared.rewrites.Rewritten.{Rewritten}
 use Rattle.evenodd.specs.declared.rewrites.Rewritten.the-variants as rewritten
-use Rattle.evenodd.specs.Checks as checks
-use Rattle.evenodd.specs.Locates.{locateRules, OneDiffers, Locates}
-use Rattle.evenodd.specs.Locates as locates
+use Rattle.checking.specs.Checks as checks
+use Rattle.checking.specs.Locates.{locateRules, OneDiffers, Locates}
+use Rattle.checking.specs.Locates as locates
 use Rattle.evenodd.specs.Rewrites.{columnRules, rewriteRules, Rewrites}
 use Rattle.evenodd.specs.Rewrites as rewrites
 use Rattle.end_to_end.specs.OneWrong.{SameWords, PairGivesBack, NothingToRewrite, NothingElseToRewrite, RewriteKeepsValid}
-use Rattle.evenodd.proofs.Located.{locate-passed, valid-passes}
+use Rattle.checking.proofs.Located.{locate-passed, valid-passes}
 use Rattle.evenodd.proofs.Rewritten.{between, agrees-self, one-but, rewrite-told}
 
 -- rewrite of a column, where a valid stripe v agrees with all others: it passes, and leaves v

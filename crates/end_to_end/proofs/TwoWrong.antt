@@ -22,20 +22,20 @@ use Rattle.refusals.proofs.Rules.{passes-not, refuse-one, gives-one, gives-rest
 use Rattle.maps.specs.declared.Map.{Map}
 use Rattle.inputs.specs.Rules.{unmendable, stripeRules}
 use Rattle.inputs.proofs.Stripe.{stripe-passed}
-use Rattle.evenodd.specs.declared.checks.Checked.{Checked}
-use Rattle.evenodd.specs.declared.checks.Checked.the-variants as checked
-use Rattle.evenodd.specs.declared.locates.Located.{Located}
-use Rattle.evenodd.specs.declared.locates.Located.the-variants as located
+use Rattle.checking.specs.declared.checks.Checked.{Checked}
+use Rattle.checking.specs.declared.checks.Checked.the-variants as checked
+use Rattle.checking.specs.declared.locates.Located.{Located}
+use Rattle.checking.specs.declared.locates.Located.the-variants as located
 use Rattle.evenodd.specs.declared.restores.Restored.{Restored}
 use Rattle.evenodd.specs.declared.rewrites.Rewritten.the-variants as rewritten
-use Rattle.evenodd.specs.Checks.{Counted, Checks}
-use Rattle.evenodd.specs.Locates.{Locates}
+use Rattle.checking.specs.Checks.{Counted, Checks}
+use Rattle.checking.specs.Locates.{Locates}
 use Rattle.evenodd.specs.Rewrites.{columnRules}
 use Rattle.evenodd.specs.Restores.{verdictOf, Restores}
 use Rattle.end_to_end.specs.OneOrNothing.{Fits, FitsAlone, NoneFits, Together, Asked, OneOrNothing}
 use Rattle.end_to_end.specs.OneWrong.{AbsentAre, RestoreAsRewrite}
 use Rattle.end_to_end.specs.TwoWrong.{SixOrAThird, AnyThirdNamed, RewriteSeals, OneOfTwoAbsent, BothAbsent, OtherTwoAbsent}
-use Rattle.evenodd.proofs.Located.{locate-passed}
+use Rattle.checking.proofs.Located.{locate-passed}
 use Rattle.end_to_end.proofs.OneOrNothing.{one-or-nothing}
 use Rattle.end_to_end.proofs.OneWrong.{rewrite-named, locate-names}
 

@@ -23,16 +23,16 @@ use Rattle.evenodd.specs.declared.one_cell.Changed.{Changed}
 use Rattle.evenodd.specs.declared.one_cell.Changed.the-variants as changed
 use Rattle.evenodd.specs.declared.many_cells.ChangedAll.{ChangedAll}
 use Rattle.evenodd.specs.declared.many_cells.ChangedAll.the-variants as changedAll
-use Rattle.evenodd.specs.declared.checks.Checked.{Checked}
+use Rattle.checking.specs.declared.checks.Checked.{Checked}
 use Rattle.evenodd.specs.declared.encodes.Encoded.{Encoded}
 use Rattle.evenodd.specs.declared.encodes.Encoded.the-variants as encoded
-use Rattle.evenodd.specs.declared.locates.Located.{Located}
-use Rattle.evenodd.specs.declared.locates.Located.the-variants as located
+use Rattle.checking.specs.declared.locates.Located.{Located}
+use Rattle.checking.specs.declared.locates.Located.the-variants as located
 use Rattle.evenodd.specs.Encodes.{Encodes}
-use Rattle.evenodd.specs.Checks.{rowsOf, diagonalsOf, Checks}
+use Rattle.checking.specs.Checks.{rowsOf, diagonalsOf, Checks}
 use Rattle.evenodd.specs.Changes.{Changes}
 use Rattle.evenodd.specs.ChangesAll.{ChangesAll}
-use Rattle.evenodd.specs.Locates.{Locates}
+use Rattle.checking.specs.Locates.{Locates}
 use Rattle.end_to_end.specs.OneChange.{Edited, SameBroken}
 
 -- calls of change with the items 0 to n - 1, one after another, lead from s to v; what they answer is left open

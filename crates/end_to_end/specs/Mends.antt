@@ -10,12 +10,12 @@ use Prim.Native.Nat.{ℕ, _+_, _<_}
 use lib.Dec.{eqb}
 use Rattle.parity.specs.Stripe.{Valid}
 use Rattle.parity.specs.Presence.{DifferIn}
-use Rattle.evenodd.specs.declared.locates.Located.{Located}
-use Rattle.evenodd.specs.declared.locates.Located.the-variants as located
+use Rattle.checking.specs.declared.locates.Located.{Located}
+use Rattle.checking.specs.declared.locates.Located.the-variants as located
 use Rattle.evenodd.specs.declared.rewrites.Rewritten.{Rewritten}
 use Rattle.evenodd.specs.declared.rewrites.Rewritten.the-variants as rewritten
 use Rattle.refusals.specs.Refusals.{pass, Gives}
-use Rattle.evenodd.specs.Locates.{locateRules, verdictOf, columnOf, Locates}
+use Rattle.checking.specs.Locates.{locateRules, verdictOf, columnOf, Locates}
 use Rattle.evenodd.specs.Rewrites.{Rewrites}
 
 pub record Mends (m k b : ℕ) (before after : List ℕ) (r : Located) : Type 0 where

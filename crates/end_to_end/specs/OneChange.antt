@@ -28,19 +28,19 @@ use Rattle.maps.specs.Absent.{Stray}
 use Rattle.maps.specs.Truth.{TrueMap}
 use Rattle.evenodd.specs.declared.one_cell.Changed.{Changed}
 use Rattle.evenodd.specs.declared.one_cell.Changed.the-variants as changed
-use Rattle.evenodd.specs.declared.checks.Checked.{Checked}
+use Rattle.checking.specs.declared.checks.Checked.{Checked}
 use Rattle.evenodd.specs.declared.encodes.Encoded.{Encoded}
 use Rattle.evenodd.specs.declared.encodes.Encoded.the-variants as encoded
-use Rattle.evenodd.specs.declared.locates.Located.{Located}
-use Rattle.evenodd.specs.declared.locates.Located.the-variants as located
+use Rattle.checking.specs.declared.locates.Located.{Located}
+use Rattle.checking.specs.declared.locates.Located.the-variants as located
 use Rattle.evenodd.specs.declared.restores.Restored.{Restored}
 use Rattle.evenodd.specs.declared.rewrites.Rewritten.{Rewritten}
 use Rattle.evenodd.specs.declared.rewrites.Rewritten.the-variants as rewritten
 use Rattle.evenodd.specs.Encodes.{Encodes}
-use Rattle.evenodd.specs.Checks.{rowsOf, diagonalsOf, Checks}
+use Rattle.checking.specs.Checks.{rowsOf, diagonalsOf, Checks}
 use Rattle.evenodd.specs.Changes.{Changes}
 use Rattle.evenodd.specs.Restores.{Restores}
-use Rattle.evenodd.specs.Locates.{Locates}
+use Rattle.checking.specs.Locates.{Locates}
 use Rattle.evenodd.specs.Rewrites.{Rewrites}
 use Rattle.end_to_end.specs.OneOrNothing.{GivenBack}
 

@@ -18,19 +18,19 @@ use Rattle.parity.specs.Presence.{present, absences, AgreesBut}
 use Rattle.maps.specs.declared.Map.{Map}
 use Rattle.refusals.specs.declared.Refusal.the-variants.{Contradicted, Unmendable}
 use Rattle.refusals.specs.Refusals.{pass}
-use Rattle.evenodd.specs.declared.checks.Checked.{Checked}
-use Rattle.evenodd.specs.declared.checks.Checked.the-variants as checked
+use Rattle.checking.specs.declared.checks.Checked.{Checked}
+use Rattle.checking.specs.declared.checks.Checked.the-variants as checked
 use Rattle.evenodd.specs.declared.encodes.Encoded.the-variants as encoded
-use Rattle.evenodd.specs.declared.locates.Located.{Located}
-use Rattle.evenodd.specs.declared.locates.Located.the-variants as located
+use Rattle.checking.specs.declared.locates.Located.{Located}
+use Rattle.checking.specs.declared.locates.Located.the-variants as located
 use Rattle.evenodd.specs.declared.restores.Restored.{Restored}
 use Rattle.evenodd.specs.declared.restores.Restored.the-variants as restored
 use Rattle.evenodd.specs.declared.rewrites.Rewritten.{Rewritten}
 use Rattle.evenodd.specs.declared.rewrites.Rewritten.the-variants as rewritten
 use Rattle.evenodd.specs.Encodes.{Encodes}
-use Rattle.evenodd.specs.Checks.{Checks}
+use Rattle.checking.specs.Checks.{Checks}
 use Rattle.evenodd.specs.Restores.{verdictOf, Restores}
-use Rattle.evenodd.specs.Locates.{Locates}
+use Rattle.checking.specs.Locates.{Locates}
 use Rattle.evenodd.specs.Rewrites.{Rewrites}
 use Rattle.end_to_end.specs.OneOrNothing.{Together, Asked}
 

@@ -18,13 +18,11 @@ use Rattle.parity.proofs.Theorems.{frame, served, at-most-one, absent-unread}
 use Rattle.inputs.specs.Rules.{tooManyAbsent, contradicted, stripeRules, lentRules, gapRules, restoreRules, showRules, listRules}
 use Rattle.refusals.proofs.Rules.{passes-not, refuse-one, gives-one, passed-first, gives-passed, gives-instead, first-not, first-one}
 use Rattle.inputs.proofs.Stripe.{stripe-given}
-use Rattle.evenodd.specs.declared.checks.Checked.{Checked}
-use Rattle.evenodd.specs.declared.checks.Checked.the-variants as checked
 use Rattle.evenodd.specs.declared.encodes.Encoded.the-variants as encoded
 use Rattle.evenodd.proofs.Rewritten.{between, agrees-self, agrees-back, one-but}
 use Rattle.evenodd.proofs.Changed.{change-given}
 use Rattle.evenodd.proofs.Shown.{in-stripe, in-bench}
-use Rattle.evenodd.specs.Determined.{EncodesOne, ChecksOne, RestoresOne, RestoresUnread, LocatesOne, RewritesOne, leftOf, RewritesUnread, ChangesOne, ChangesAllOne, PlacesOne, SamePart, ShowsOne, PlacesUnread, ShowsUnread}
+use Rattle.evenodd.specs.Determined.{EncodesOne, RestoresOne, RestoresUnread, RewritesOne, leftOf, RewritesUnread, ChangesOne, ChangesAllOne, PlacesOne, SamePart, ShowsOne, PlacesUnread, ShowsUnread}
 use lib.ListN.{length}
 use Rattle.parity.specs.Theorems.{AtMostOne, AbsentUnread}
 use Rattle.parity.proofs.Bytes.{stripe-ext}
@@ -32,14 +30,10 @@ use Rattle.maps.proofs.Absent.{nth-one}
 use Rattle.maps.specs.declared.Map.{Map}
 use Rattle.refusals.specs.Refusals.{pass, Gives, Verdict}
 use Rattle.inputs.proofs.Tests.{lent-given}
-use Rattle.evenodd.specs.declared.locates.Located.{Located}
-use Rattle.evenodd.specs.declared.locates.Located.the-variants as located
 use Rattle.evenodd.specs.declared.restores.Restored.the-variants as restored
 use Rattle.evenodd.specs.declared.rewrites.Rewritten.{Rewritten}
 use Rattle.evenodd.specs.declared.rewrites.Rewritten.the-variants as rewritten
 use Rattle.evenodd.specs.Restores.{Benched, RestoredFrom}
-use Rattle.evenodd.specs.Checks.{Checks}
-use Rattle.evenodd.specs.Locates.{locateRules, Locates}
 use Rattle.evenodd.specs.Rewrites.{columnRules, rewriteRules, Rewrites}
 use Rattle.evenodd.specs.declared.one_cell.Changed.the-variants as changed
 use Rattle.evenodd.specs.Changes.{changeRules}
@@ -51,7 +45,7 @@ use Rattle.evenodd.specs.declared.shows.Place.{Place}
 use Rattle.evenodd.specs.declared.shows.Place.the-variants.{InStripe, InBench, Refused}
 use Rattle.evenodd.specs.Shows.{Places, PartOf, PartAt}
 
--- ---- encode and check
+-- ---- encode
 
 -- valid stripes with the same data columns are one
 pub data-determine : (m k b : ℕ) → Shape m k b → (s x y : List ℕ) → Valid m k b x → Valid m k b y
@@ -72,26 +66,6 @@ encodes-one m k b s x y encoded.Done (encoded.Refused g) p q = absurd (passes-no
 encodes-one m k b s x y (encoded.Refused f) encoded.Done p q = absurd (passes-not f (gives-one (stripeRules m k b (length s)) _ _ (q .told) (p .told)))
 encodes-one m k b s x y (encoded.Refused f) (encoded.Refused g) p q =
     (ap encoded.Refused (refuse-one f g (gives-one (stripeRules m k b (length s)) _ _ (p .told) (q .told))), p .written ∙ sym (q .written))
-
-pub checks-one : ChecksOne
-unfolding ChecksOne
-checks-one m k b s r q p h = go r q p h
-  where
-    answered : (v w : Verdict) → Gives (stripeRules m k b (length s)) v → Gives (stripeRules m k b (length s)) w → v ≡ w
-    answered v w = gives-one (stripeRules m k b (length s)) v w
-
-    go : (r q : Checked) → Checks m k b s r → Checks m k b s q → r ≡ q
-    go checked.Intact q p h = sym (h .counted (answered _ _ (h .told) (p .told)) .intact .1 (p .counted refl .intact .0 refl))
-    go checked.Blank q p h = sym (h .counted (answered _ _ (h .told) (p .told)) .blank .1 (p .counted refl .blank .0 refl))
-    go (checked.Broken x y) checked.Intact p h = p .counted refl .intact .1 (h .counted refl .intact .0 refl)
-    go (checked.Broken x y) checked.Blank p h = p .counted refl .blank .1 (h .counted refl .blank .0 refl)
-    go (checked.Broken x y) (checked.Broken u v) p h =
-        let c = p .counted refl in let d = h .counted refl in ap₂ checked.Broken (c .rows ∙ sym (d .rows)) (c .diagonals ∙ sym (d .diagonals))
-    go (checked.Broken x y) (checked.Refused g) p h = absurd (passes-not g (answered _ _ (p .told) (h .told)))
-    go (checked.Refused f) checked.Intact p h = absurd (passes-not f (answered _ _ (h .told) (p .told)))
-    go (checked.Refused f) checked.Blank p h = absurd (passes-not f (answered _ _ (h .told) (p .told)))
-    go (checked.Refused f) (checked.Broken u v) p h = absurd (passes-not f (answered _ _ (h .told) (p .told)))
-    go (checked.Refused f) (checked.Refused g) p h = ap checked.Refused (refuse-one f g (answered _ _ (p .told) (h .told)))
 
 -- ---- restore
 
@@ -161,21 +135,6 @@ restores-unread m k b map s other bench x r p e a = record {
       other = u .other;
       bench = u .bench;
     }
-
--- ---- locate
-
-pub locates-one : LocatesOne
-unfolding LocatesOne
-locates-one m k b s r q p h = go r q p h
-  where
-    go : (r q : Located) → Locates m k b s r → Locates m k b s q → r ≡ q
-    go located.Intact q p h = sym (h .found (gives-one (locateRules m k b s) _ _ (h .told) (p .told)) .intact .1 (p .found refl .intact .0 refl))
-    go located.Blank q p h = sym (h .found (gives-one (locateRules m k b s) _ _ (h .told) (p .told)) .blank .1 (p .found refl .blank .0 refl))
-    go (located.Column u) q p h = sym (h .found (gives-one (locateRules m k b s) _ _ (h .told) (p .told)) .named u .1 (p .found refl .named u .0 refl))
-    go (located.Refused f) located.Intact p h = absurd (passes-not f (gives-one (locateRules m k b s) _ _ (h .told) (p .told)))
-    go (located.Refused f) located.Blank p h = absurd (passes-not f (gives-one (locateRules m k b s) _ _ (h .told) (p .told)))
-    go (located.Refused f) (located.Column v) p h = absurd (passes-not f (gives-one (locateRules m k b s) _ _ (h .told) (p .told)))
-    go (located.Refused f) (located.Refused g) p h = ap located.Refused (refuse-one f g (gives-one (locateRules m k b s) _ _ (p .told) (h .told)))
 
 -- ---- rewrite
 

@@ -1,9 +1,6 @@
 -- Laws that belong to no one function.
 pub mod Laid
-pub mod Zeros
-pub mod Checked
 pub mod Restored
-pub mod Located
 pub mod Rewritten
 pub mod Changed
 pub mod ManyChanged

@@ -1,26 +1,22 @@
 -- Each promise determines its result: two results that meet it are equal. Each statement is a type, which proofs/Determined inhabits.
 -- Of a part that show hands out, the place and the bytes are determined: `SamePart`. The name under which the logic follows a reference is no part
 -- of the answer.
---   EncodesOne, ChecksOne, RestoresOne, LocatesOne, RewritesOne, ChangesOne, ChangesAllOne, PlacesOne, ShowsOne    the promise of each call
+--   EncodesOne, RestoresOne, RewritesOne, ChangesOne, ChangesAllOne, PlacesOne, ShowsOne    the promise of each call
 --   RestoresUnread               what stands in an absent column's place alters neither restore's answer nor the bench
 --   RewritesUnread               what stands in the column that is named alters neither rewrite's answer nor what it leaves
 --   PlacesUnread, ShowsUnread    no byte of stripe or bench alters where a column is shown: their lengths alone are asked
 use mathlib.Core.Path.{_≡_}
 use mathlib.Core.List.{List}
 use Prim.Native.Nat.{ℕ}
-use Rattle.evenodd.specs.declared.checks.Checked.{Checked}
 use Rattle.evenodd.specs.declared.encodes.Encoded.{Encoded}
 use Rattle.evenodd.specs.Encodes.{Encodes}
-use Rattle.evenodd.specs.Checks.{Checks}
 use lib.ListN.{length}
 use Rattle.parity.specs.Presence.{Agrees, AgreesBut}
 use Rattle.maps.specs.declared.Map.{Map}
-use Rattle.evenodd.specs.declared.locates.Located.{Located}
 use Rattle.evenodd.specs.declared.restores.Restored.{Restored}
 use Rattle.evenodd.specs.declared.rewrites.Rewritten.{Rewritten}
 use Rattle.evenodd.specs.declared.rewrites.Rewritten.the-variants.{Done, Refused}
 use Rattle.evenodd.specs.Restores.{Restores}
-use Rattle.evenodd.specs.Locates.{verdictOf, columnOf, Locates}
 use Rattle.evenodd.specs.Rewrites.{Rewrites}
 use Rattle.evenodd.specs.declared.one_cell.Changed.{Changed}
 use Rattle.evenodd.specs.Changes.{Changes}
@@ -33,9 +29,6 @@ use Rattle.evenodd.specs.Shows.{Places, Shows}
 unfoldable pub EncodesOne : Type 0
 EncodesOne = (m k b : ℕ) (s x y : List ℕ) (r q : Encoded) → Encodes m k b s x r → Encodes m k b s y q → (r ≡ q) × (x ≡ y)
 
-unfoldable pub ChecksOne : Type 0
-ChecksOne = (m k b : ℕ) (s : List ℕ) (r q : Checked) → Checks m k b s r → Checks m k b s q → r ≡ q
-
 unfoldable pub RestoresOne : Type 0
 RestoresOne = (m k b : ℕ) (map : Map) (s bench x y : List ℕ) (r q : Restored)
     → Restores m k b map s bench x r → Restores m k b map s bench y q → (r ≡ q) × (x ≡ y)
@@ -43,9 +36,6 @@ RestoresOne = (m k b : ℕ) (map : Map) (s bench x y : List ℕ) (r q : Restored
 unfoldable pub RestoresUnread : Type 0
 RestoresUnread = (m k b : ℕ) (map : Map) (s other bench x : List ℕ) (r : Restored)
     → Restores m k b map s bench x r → length other ≡ length s → Agrees m k b (map .places) s other → Restores m k b map other bench x r
-
-unfoldable pub LocatesOne : Type 0
-LocatesOne = (m k b : ℕ) (s : List ℕ) (r q : Located) → Locates m k b s r → Locates m k b s q → r ≡ q
 
 unfoldable pub RewritesOne : Type 0
 RewritesOne = (m k b column : ℕ) (s x y : List ℕ) (r q : Rewritten) → Rewrites m k b column s x r → Rewrites m k b column s y q → (r ≡ q) × (x ≡ y)

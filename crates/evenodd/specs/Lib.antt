@@ -1,9 +1,7 @@
 -- What each call promises, that this determines what it gives, and what follows from all promises together.
 pub mod Encodes
-pub mod Checks
 pub mod Fills
 pub mod Restores
-pub mod Locates
 pub mod Rewrites
 pub mod Changes
 pub mod ChangesAll

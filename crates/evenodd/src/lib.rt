@@ -1,23 +1,20 @@
 // Stripes kept in the EVENODD code: encode, check, restore, locate, rewrite, change, changes and show. Nothing here asks anything of its caller: bad input is
 // refused by number, and a refused call changes no byte that was lent. Refusals, maps and shapes are handed on from the crates below.
-mod blank;
-mod checks;
 mod encodes;
-mod locates;
 mod many_cells;
 mod one_cell;
 mod restores;
 mod rewrites;
 mod shows;
 
-pub use checks::Checked;
-pub use checks::check;
+pub use checking::Checked;
+pub use checking::Located;
+pub use checking::check;
+pub use checking::locate;
 pub use encodes::Encoded;
 pub use encodes::encode;
 pub use inputs::Judged;
 pub use inputs::judge;
-pub use locates::Located;
-pub use locates::locate;
 pub use many_cells::ChangedAll;
 pub use many_cells::changes;
 pub use maps::Gaps;

@@ -1,19 +1,28 @@
 -- Whole columns of a whole stripe: what the loops over them ask for, and the lines that they start from.
 --   sized, one-row                  the numbers of a shape, and of a stripe of one row
+--   laid                            a stripe as long as the numbers of a shape ask for
 --   row-crosses                     rows go through all columns of a stripe
 --   column-room, short-column       a column has room for its m - 1 cells; a column of short cells is not long
 --   whole-line, turned-by           row r, shifted by nothing, is row r; shifted by as much as u rows up, it is the row u rows up
-use mathlib.Core.Path.{_≡_, ap, _∙_}
+use mathlib.Core.Path.{_≡_, sym, ap, _∙_}
+use mathlib.Core.List.{List}
 use Prim.Native.Nat.{ℕ, _+_, _*_, _-_, _%_, _≤_, _<_}
 use native.Mathlib.Nat.{mul-le-mul, mul-le-mul-right, mod-eq-of-lt, add-mod-mod}
 use native.Mathlib.Omega.{arith}
-use Rattle.parity.specs.Shape.{Shape, columnLength}
-use Rattle.lines.specs.Lines.{Sized, Crosses}
+use lib.ListN.{length}
+use Rattle.parity.specs.Shape.{Shape, columnLength, stripeLength}
+use Rattle.parity.proofs.Shapes.{whole-stripe}
+use Rattle.lines.specs.declared.Grid.{Grid}
+use Rattle.lines.specs.Lines.{Sized, Laid, Crosses}
 use Rattle.parity.specs.Equations.{back}
 use Rattle.lines.proofs.Lines.{column-is}
 
 pub sized : {m k b c : ℕ} → Shape m k b → c ≡ columnLength m b → Sized m b c
 sized s e = record { big = s .value .prime .big; few = s .value .most; filled = s .filled; short = s .short; column = e }
+
+pub laid : {g : Grid} {s : List ℕ} → Shape (g .m) (g .k) (g .b) → g .column ≡ columnLength (g .m) (g .b) → length s ≡ stripeLength (g .m) (g .k) (g .b) → Laid g s
+laid {g} shape column stripe =
+    record { sized = sized shape column; some = shape .real; few = shape .few; whole = stripe ∙ sym (whole-stripe (g .m) (g .k) (g .b) column) }
 
 pub one-row : {n : ℕ} → 0 < n → n ≤ 4096 → Sized 2 n n
 unfolding columnLength

@@ -8,7 +8,7 @@ use native.Mathlib.Omega.{arith}
 use lib.ListN.{length}
 use Rattle.parity.specs.Shape.{stripeLength, benchLength}
 use Rattle.inputs.specs.Rules.{stripeRules, restoreRules, showRules, listRules}
-use Rattle.evenodd.specs.Locates.{locateRules}
+use Rattle.checking.specs.Locates.{locateRules}
 use Rattle.evenodd.specs.Rewrites.{rewriteRules}
 use Rattle.evenodd.specs.Changes.{changeRules}
 use Rattle.evenodd.specs.declared.many_cells.ChangedAll.{ChangedAll}
@@ -20,8 +20,10 @@ use Rattle.image.specs.Reads.{contentsRules, readRules}
 use Rattle.refusals.proofs.Rules.{never-number, equal-of}
 use Rattle.maps.specs.Determined.{OfBytesOne, AsBytesOne, FindsGapsOne}
 use Rattle.maps.proofs.Determined.{of-bytes-one, as-bytes-one, finds-gaps-one}
-use Rattle.evenodd.specs.Determined.{PlacesOne, RestoresOne, LocatesOne, RewritesOne, ChangesOne, ChangesAllOne, EncodesOne, ChecksOne}
-use Rattle.evenodd.proofs.Determined.{places-one, restores-one, locates-one, rewrites-one, changes-one, changes-all-one, encodes-one, checks-one}
+use Rattle.checking.specs.Determined.{LocatesOne, ChecksOne}
+use Rattle.checking.proofs.Determined.{locates-one, checks-one}
+use Rattle.evenodd.specs.Determined.{PlacesOne, RestoresOne, RewritesOne, ChangesOne, ChangesAllOne, EncodesOne}
+use Rattle.evenodd.proofs.Determined.{places-one, restores-one, rewrites-one, changes-one, changes-all-one, encodes-one}
 use Rattle.image.specs.declared.answers.Contents.{Contents}
 use Rattle.image.specs.Determined.{ContentsOne, ReadsOne}
 use Rattle.image.proofs.Determined.{contents-one, reads-one}

@@ -11,11 +11,11 @@ use Prim.Native.Nat.{ℕ, _+_, _≤_}
 use Rattle.parity.specs.Shape.{OddPrime, Shape, stripeLength, benchLength}
 use Rattle.evenodd.specs.declared.one_cell.Changed.{Changed}
 use Rattle.evenodd.specs.declared.many_cells.ChangedAll.{ChangedAll}
-use Rattle.evenodd.specs.declared.checks.Checked.{Checked}
+use Rattle.checking.specs.declared.checks.Checked.{Checked}
 use Rattle.evenodd.specs.declared.encodes.Encoded.{Encoded}
 use Rattle.maps.specs.declared.Gaps.{Gaps}
 use Rattle.maps.specs.declared.Map.{Map}
-use Rattle.evenodd.specs.declared.locates.Located.{Located}
+use Rattle.checking.specs.declared.locates.Located.{Located}
 use Rattle.evenodd.specs.declared.restores.Restored.{Restored}
 use Rattle.evenodd.specs.declared.rewrites.Rewritten.{Rewritten}
 use Rattle.evenodd.specs.declared.shows.Place.{Place}
@@ -23,12 +23,12 @@ use Rattle.refusals.specs.Refusals.{answerNumber}
 use Rattle.maps.specs.Maps.{OfBytes, AsBytes, FindsGaps}
 use Rattle.evenodd.specs.Encodes.{Encodes}
 use Rattle.evenodd.specs.Encodes as encodes
-use Rattle.evenodd.specs.Checks.{Checks, rowsOf, diagonalsOf}
-use Rattle.evenodd.specs.Checks as checks
+use Rattle.checking.specs.Checks.{Checks, rowsOf, diagonalsOf}
+use Rattle.checking.specs.Checks as checks
 use Rattle.evenodd.specs.Restores.{Restores, countOf, firstOf, secondOf}
 use Rattle.evenodd.specs.Restores as restores
-use Rattle.evenodd.specs.Locates.{Locates, columnOf}
-use Rattle.evenodd.specs.Locates as locates
+use Rattle.checking.specs.Locates.{Locates, columnOf}
+use Rattle.checking.specs.Locates as locates
 use Rattle.evenodd.specs.Rewrites.{Rewrites}
 use Rattle.evenodd.specs.Rewrites as rewrites
 use Rattle.evenodd.specs.Changes.{Changes}

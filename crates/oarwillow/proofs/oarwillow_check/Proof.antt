@@ -1,6 +1,6 @@
 -- `oarwillow::oarwillow_check` meets its contract: the answer is check's, what it found is written, and each arm returns its number and writes its counts.
 use mathlib.Core.Path.{refl}
-use Rattle.evenodd.specs.declared.checks.Checked.the-variants as checked
+use Rattle.checking.specs.declared.checks.Checked.the-variants as checked
 use borrow.Author.Needs.{needs}
 use Rattle.oarwillow.proofs.oarwillow_check.Statement.{statement}
 use Rattle.oarwillow.proofs.oarwillow_check.Tie as tie

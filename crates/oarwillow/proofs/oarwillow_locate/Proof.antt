@@ -1,7 +1,7 @@
 -- `oarwillow::oarwillow_locate` meets its contract: the answer is locate's, what it found and names is written, and each arm returns its number.
 use mathlib.Core.Path.{_∙_}
 use Rattle.refusals.proofs.Rules.{same-number}
-use Rattle.evenodd.specs.Locates.{verdictOf}
+use Rattle.checking.specs.Locates.{verdictOf}
 use borrow.Author.Needs.{needs}
 use Rattle.oarwillow.proofs.oarwillow_locate.Statement.{statement}
 use Rattle.oarwillow.proofs.oarwillow_locate.Tie as tie

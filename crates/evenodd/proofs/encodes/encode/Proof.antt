@@ -10,7 +10,7 @@ use Rattle.lines.proofs.Cells.{cell-kept}
 use Rattle.inputs.specs.Rules.{stripeRules}
 use Rattle.inputs.proofs.Tests.{told-refused, Numbers, stripe-good}
 use Rattle.inputs.proofs.Stripe.{stripe-passed}
-use Rattle.evenodd.proofs.Laid.{laid}
+use Rattle.lines.proofs.Whole.{laid}
 use Rattle.evenodd.proofs.encodes.encode.Statement.{statement}
 use Rattle.evenodd.proofs.encodes.encode.Tie as tie
 

@@ -7,7 +7,7 @@ use borrow.Author.Needs.{needs}
 use Rattle.inputs.specs.Rules.{listRules}
 use Rattle.inputs.proofs.Tests.{told-refused}
 use Rattle.inputs.proofs.CellLists.{ListNumbers, lists-good, items-good, items-refused}
-use Rattle.evenodd.proofs.Laid.{laid}
+use Rattle.lines.proofs.Whole.{laid}
 use Rattle.evenodd.proofs.ManyChanged.{lists-refused, one-refused, all-named, all-changed}
 use Rattle.evenodd.proofs.many_cells.changes.Statement.{statement}
 use Rattle.evenodd.proofs.many_cells.changes.Tie as tie

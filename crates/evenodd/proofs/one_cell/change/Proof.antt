@@ -7,7 +7,7 @@ use Rattle.inputs.specs.Rules.{stripeRules}
 use Rattle.inputs.proofs.Tests.{told-refused, Numbers, stripe-good}
 use Rattle.refusals.proofs.Rules.{gives-first, gives-next}
 use Rattle.evenodd.specs.Changes.{cellRules}
-use Rattle.evenodd.proofs.Laid.{laid}
+use Rattle.lines.proofs.Whole.{laid}
 use Rattle.evenodd.proofs.Changed.{change-refused, change-told, change-passed}
 use Rattle.evenodd.proofs.one_cell.change.Statement.{statement}
 use Rattle.evenodd.proofs.one_cell.change.Tie as tie

@@ -5,7 +5,8 @@ use mathlib.Core.Bool.{Bool, true, false, not, true≢false}
 use Prim.Native.Nat.{ℕ, _-_, _≤_}
 use native.Mathlib.Decide.{decLt}
 use Rattle.walk.proofs.Callers.{reaches}
-use Rattle.evenodd.proofs.Laid.{laid, laid-bench}
+use Rattle.lines.proofs.Whole.{laid}
+use Rattle.evenodd.proofs.Laid.{laid-bench}
 use native.Mathlib.Omega.{arith}
 use Rattle.evenodd.proofs.restores.fill_gaps.Statement.{statement}
 use Rattle.evenodd.proofs.restores.fill_gaps.Tie as tie

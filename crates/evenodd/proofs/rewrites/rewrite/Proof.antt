@@ -10,7 +10,7 @@ use Rattle.parity.specs.Stripe.{Stripe}
 use Rattle.inputs.specs.Rules.{stripeRules}
 use Rattle.inputs.proofs.Tests.{told-refused, Numbers, stripe-good}
 use Rattle.evenodd.specs.Rewrites.{columnRules}
-use Rattle.evenodd.proofs.Laid.{laid}
+use Rattle.lines.proofs.Whole.{laid}
 use Rattle.evenodd.proofs.Rewritten.{rewrite-refused, rewrite-outside, rewrite-none, rewrite-done}
 use Rattle.evenodd.proofs.rewrites.rewrite.Statement.{statement}
 use Rattle.evenodd.proofs.rewrites.rewrite.Tie as tie

@@ -13,8 +13,8 @@ use lib.Dec.{eqb}
 use lib.ListN.{length}
 use Rattle.parity.specs.Stripe.{Valid, Blank}
 use Rattle.parity.specs.Presence.{DifferIn}
-use Rattle.evenodd.specs.declared.locates.Located.{Located}
-use Rattle.evenodd.specs.declared.locates.Located.the-variants as located
+use Rattle.checking.specs.declared.locates.Located.{Located}
+use Rattle.checking.specs.declared.locates.Located.the-variants as located
 use Rattle.refusals.specs.Refusals.{Verdict, pass, refuse, Rule, Gives}
 use Rattle.inputs.specs.Rules.{unmendable, stripeRules}
 

@@ -6,7 +6,7 @@ use inputs::judge_stripe;
 use lines::Grid;
 use refusals::Refusal;
 ghost use mathlib.Core.Path.{_≡_};
-ghost use Rattle.evenodd.specs.Checks.{foundOf, Checks, CountsSay};
+ghost use Rattle.checking.specs.Checks.{foundOf, Checks, CountsSay};
 
 // What check answers: the stripe is intact, or blank, or so many rows and diagonals break; or why not.
 pub enum Checked {

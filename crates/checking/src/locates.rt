@@ -6,7 +6,7 @@ use lines::Grid;
 use locating::Suspect;
 use refusals::Refusal;
 ghost use mathlib.Core.Path.{_≡_};
-ghost use Rattle.evenodd.specs.Locates.{Locates, foundOf, columnOf};
+ghost use Rattle.checking.specs.Locates.{Locates, foundOf, columnOf};
 
 // What locate answers: the stripe is intact, or blank, or the one column in which a valid stripe differs from it; or why not.
 pub enum Located {

@@ -34,8 +34,8 @@ use Rattle.refusals.specs.Refusals.{Verdict, pass, refuse, Gives}
 use Rattle.inputs.specs.Rules.{unmendable, stripeRules}
 use Rattle.refusals.proofs.Rules.{passes-not, gives-first, gives-next, gives-after, gives-passed}
 use Rattle.inputs.proofs.Stripe.{stripe-given, stripe-passed}
-use Rattle.evenodd.specs.declared.locates.Located.the-variants as located
-use Rattle.evenodd.specs.Locates.{locateRules, OneDiffers, Locates}
+use Rattle.checking.specs.declared.locates.Located.the-variants as located
+use Rattle.checking.specs.Locates.{locateRules, OneDiffers, Locates}
 
 pub locate-passed : (m k b : ℕ) (s : List ℕ) → Gives (locateRules m k b s) pass → Shape m k b × (length s ≡ stripeLength m k b)
 locate-passed m k b s g = stripe-given m k b (length s) (gives-passed (stripeRules m k b (length s)) (unmendable m k b s ∷ []) g .0)

@@ -10,11 +10,11 @@ use lib.ListN.{length}
 use Rattle.parity.specs.Stripe.{brokenRows, brokenDiagonals, Blank, SomeByte}
 use Rattle.parity.proofs.Theorems.{lanes-counted, blank-holds, not-both-blank, blank-or-not}
 use Rattle.counting.specs.declared.Counts.{Counts}
-use Rattle.evenodd.specs.declared.checks.Checked.{Checked}
-use Rattle.evenodd.specs.declared.checks.Checked.the-variants as checked
+use Rattle.checking.specs.declared.checks.Checked.{Checked}
+use Rattle.checking.specs.declared.checks.Checked.the-variants as checked
 use Rattle.refusals.specs.Refusals.{pass, Gives}
 use Rattle.inputs.specs.Rules.{stripeRules}
-use Rattle.evenodd.specs.Checks.{Checks, CountsSay}
+use Rattle.checking.specs.Checks.{Checks, CountsSay}
 
 module _ (m k b : ℕ) (s : List ℕ) (passed : Gives (stripeRules m k b (length s)) pass) where
   pub blank-checks : Blank m k b s → Checks m k b s checked.Blank

@@ -10,8 +10,8 @@ use borrow.Author.Needs.{needs}
 use Rattle.cells.specs.Runs.{Zeros}
 use Rattle.cells.proofs.Parts.{part, part-at, by-order}
 use Rattle.cells.proofs.Tells.{zeros-at}
-use Rattle.evenodd.proofs.blank.is_blank.Statement.{statement}
-use Rattle.evenodd.proofs.blank.is_blank.Tie as tie
+use Rattle.checking.proofs.blank.is_blank.Statement.{statement}
+use Rattle.checking.proofs.blank.is_blank.Tie as tie
 
 zeros-part : {x : List ℕ} (a e : ℕ) → Zeros x → Zeros (part x a e)
 zeros-part {x} a e z = record { each = λ l h. part-at x a e l (omega (arith, h, length-take (e - a) (drop a x))) ∙ zeros-at z (a + l) }

@@ -9,11 +9,12 @@ use Rattle.inputs.specs.Rules.{stripeRules}
 use Rattle.refusals.proofs.Rules.{passes-not}
 use Rattle.inputs.proofs.Tests.{told-refused, Numbers, stripe-good}
 use Rattle.inputs.proofs.Stripe.{stripe-passed}
-use Rattle.evenodd.proofs.Laid.{laid, parity-inside}
-use Rattle.evenodd.proofs.Zeros.{zeros-tell, no-zeros-tell}
-use Rattle.evenodd.proofs.Checked.{blank-checks, says-checks}
-use Rattle.evenodd.proofs.checks.check.Statement.{statement}
-use Rattle.evenodd.proofs.checks.check.Tie as tie
+use Rattle.lines.proofs.Whole.{laid}
+use Rattle.checking.proofs.Parity.{parity-inside}
+use Rattle.checking.proofs.Zeros.{zeros-tell, no-zeros-tell}
+use Rattle.checking.proofs.Checked.{blank-checks, says-checks}
+use Rattle.checking.proofs.checks.check.Statement.{statement}
+use Rattle.checking.proofs.checks.check.Tie as tie
 
 good : (c : tie.After-known-told) → let a = c .before .before .before .before .before .args in
     Numbers (a .m) (a .k) (a .b) (length (now (a .stripe))) (c .before .judged .given .0 .0)

@@ -11,8 +11,8 @@ use Prim.Native.Nat.{ℕ}
 use lib.ListN.{length}
 use Rattle.parity.specs.Stripe.{brokenRows, brokenDiagonals, Blank, Intact}
 use Rattle.counting.specs.declared.Counts.{Counts}
-use Rattle.evenodd.specs.declared.checks.Checked.{Checked}
-use Rattle.evenodd.specs.declared.checks.Checked.the-variants as checked
+use Rattle.checking.specs.declared.checks.Checked.{Checked}
+use Rattle.checking.specs.declared.checks.Checked.the-variants as checked
 use Rattle.refusals.specs.Refusals.{Verdict, pass, refuse, Gives}
 use Rattle.inputs.specs.Rules.{stripeRules}
 

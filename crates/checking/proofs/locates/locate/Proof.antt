@@ -8,11 +8,12 @@ use Rattle.parity.specs.Stripe.{Stripe}
 use Rattle.locating.specs.Locating.{Blamed}
 use Rattle.inputs.specs.Rules.{unmendable, stripeRules}
 use Rattle.inputs.proofs.Tests.{told-refused, Numbers, stripe-good}
-use Rattle.evenodd.proofs.Laid.{laid, parity-inside}
-use Rattle.evenodd.proofs.Zeros.{zeros-tell, no-zeros-tell}
-use Rattle.evenodd.proofs.Located.{locate-refused, locate-blank, locate-intact, locate-column, locate-nobody}
-use Rattle.evenodd.proofs.locates.locate.Statement.{statement}
-use Rattle.evenodd.proofs.locates.locate.Tie as tie
+use Rattle.lines.proofs.Whole.{laid}
+use Rattle.checking.proofs.Parity.{parity-inside}
+use Rattle.checking.proofs.Zeros.{zeros-tell, no-zeros-tell}
+use Rattle.checking.proofs.Located.{locate-refused, locate-blank, locate-intact, locate-column, locate-nobody}
+use Rattle.checking.proofs.locates.locate.Statement.{statement}
+use Rattle.checking.proofs.locates.locate.Tie as tie
 
 good : (c : tie.After-known-told) → let a = c .before .before .before .before .before .args in
     Numbers (a .m) (a .k) (a .b) (length (now (a .stripe))) (c .before .judged .given .0 .0)

@@ -2,9 +2,9 @@
 use mathlib.Core.Path.{_≡_, refl, sym}
 use Prim.Native.Nat.{ℕ}
 use native.Mathlib.Omega.{arith}
-use Rattle.evenodd.specs.declared.checks.Checked.the-variants.{Intact, Blank, Broken}
-use Rattle.evenodd.proofs.checks.told.Statement.{statement}
-use Rattle.evenodd.proofs.checks.told.Tie as tie
+use Rattle.checking.specs.declared.checks.Checked.the-variants.{Intact, Blank, Broken}
+use Rattle.checking.proofs.checks.told.Statement.{statement}
+use Rattle.checking.proofs.checks.told.Tie as tie
 
 not-intact : {x y : ℕ} → Broken x y ≡ Intact → ⊥
 not-intact e = let z : _≡_ {A = ℕ} 0 1 = cc in omega arith

@@ -1,0 +1,4 @@
+-- What each call promises, and that this determines its answer.
+pub mod Checks
+pub mod Locates
+pub mod Determined
