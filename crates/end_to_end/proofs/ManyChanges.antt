@@ -1,4 +1,4 @@
--- What follows from the promise of changes: the proofs of the statements in specs/EndToEnd that are about it. What one change keeps or leaves, a list of them does.
+-- What follows from the promise of changes. What one change keeps or leaves, a list of them does.
 --   fits            an item of the list is one that change does of any stripe of that length
 --   sized           so every stripe on the way has that length, and what calls of change leave, whatever they answer, is what changes leaves
 --   still-stripe    and is bytes

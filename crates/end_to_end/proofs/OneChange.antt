@@ -1,4 +1,4 @@
--- What follows from change's promise: the proofs of the statements in specs/EndToEnd that are about it. Data and amounts make a stripe, and change says of both
+-- What follows from change's promise. Data and amounts make a stripe, and change says of both
 -- what they become.
 --   done            where all that change asks is so, it is done
 --   all-grown       what the cells get added, and left-stripe: so what is left is bytes

@@ -24,9 +24,11 @@ use Rattle.inputs.proofs.Stripe.{stripe-given}
 use Rattle.inputs.proofs.Tests.{lent-passed, gaps-passed}
 use Rattle.evenodd.specs.declared.restores.Restored.{Restored}
 use Rattle.evenodd.specs.declared.restores.Restored.the-variants as restored
-use Rattle.evenodd.specs.Restores.{verdictOf, RestoredFrom}
+use Rattle.evenodd.specs.Restores.{verdictOf, RestoredFrom, Restores}
 use Rattle.evenodd.specs.Shows.{half}
-use Rattle.end_to_end.specs.OneOrNothing.{Fits, FitsAlone, Together, GivesTheOne, OneOrNothing, RestoreGivesBack}
+use Rattle.end_to_end.specs.OneOrNothing.{Fits, FitsAlone, Together, GivesTheOne, OneOrNothing, RestoreGivesBack, Asked}
+use Rattle.parity.specs.Shape.{Shape}
+use Rattle.maps.specs.declared.Map.{Map}
 
 agrees-back : (m k b : ℕ) (map : List Bool) (s v : List ℕ) → Agrees m k b map s v → Agrees m k b map v s
 agrees-back m k b map s v a = record { at = λ t ht p. column-same m b v s t (λ l i hl hi. sym (same-column m b s v t (a .at t ht p) l i hl hi)) }
@@ -125,3 +127,14 @@ restore-gives-back m k b map fresh s lost before after (restored.Refused r) enc 
     (gaps-passed m k b (length lost) map (length before) (record { shape = h; stripe = size; held = held; truth = truth; clear = clear }) few)
     (gives-next (λ c. c s (enc .written .0) (agrees-back m k b (map .places) s lost agrees)) refl))
     (p .told)))
+
+-- a stripe that fits is the only one where at most two columns are absent
+pub alone : (m k b : ℕ) → Shape m k b → (map : List Bool) (s v : List ℕ) → absences k map ≤ 2 → Fits m k b map s v → FitsAlone m k b map s v
+unfolding AtMostOne
+alone m k b h map s v few f = record { fits = f; only = λ w g. at-most-one m k b h map few s w v (g .valid) (f .valid) (g .agrees) (f .agrees) }
+
+-- where one fits alone, restore passes and gives it
+pub gives-it : (m k b : ℕ) (map : Map) (s before after v : List ℕ) (r : Restored) → Asked m k b map s before → Restores m k b map s before after r
+    → FitsAlone m k b (map .places) s v → (verdictOf r ≡ pass) × Together m k b (map .places) s after v
+unfolding OneOrNothing
+gives-it m k b map s before after v r a p f = let g = one-or-nothing m k b map s before after r a p in (g .given .1 (v, f), g .together v f)

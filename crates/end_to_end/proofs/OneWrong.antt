@@ -1,20 +1,20 @@
 -- One column is wrong, or none: locate and rewrite.
 use mathlib.Core.Path.{_≡_, refl, sym, ap, _∙_}
 use mathlib.Core.Logic.{_≢_, _↔_, _⊎_, inl, inr, by-cases}
-use mathlib.Core.Bool.{Bool, true, false, true≢false}
+use mathlib.Core.Bool.{Bool, true, false, true≢false, not}
 use mathlib.Core.List.{List, [], _∷_}
 use Prim.Native.Nat.{ℕ, _+_, _≤_, _<_}
 use native.Mathlib.Decide.{ℕ-discrete}
 use native.Mathlib.Omega.{arith}
 use lib.ListN.{length}
 use borrow.Author.Tests.{eq-eqb, ne-eqb}
-use Rattle.parity.specs.Shape.{Shape, stripeLength}
+use Rattle.parity.specs.Shape.{Shape, stripeLength, member}
 use Rattle.parity.specs.Stripe.{Valid, Blank, Intact}
-use Rattle.parity.specs.Presence.{differs, differing, AgreesBut}
+use Rattle.parity.specs.Presence.{differs, differing, AgreesBut, present, absences}
 use Rattle.parity.specs.Theorems.{IntactOrBlank}
 use Rattle.parity.proofs.Bytes.{stripe-ext}
 use Rattle.parity.proofs.Columns.{same-column, differs-alike}
-use Rattle.parity.proofs.Count.{few-pass}
+use Rattle.parity.proofs.Count.{few-pass, listed-pass}
 use Rattle.parity.proofs.Theorems.{few-differ, intact-or-blank}
 use Rattle.parity.proofs.TwoWrong.{near-two}
 use Rattle.refusals.specs.declared.Refusal.{Refusal}
@@ -32,9 +32,11 @@ use Rattle.checking.specs.Locates.{locateRules, OneDiffers, Locates}
 use Rattle.checking.specs.Locates as locates
 use Rattle.evenodd.specs.Rewrites.{columnRules, rewriteRules, Rewrites}
 use Rattle.evenodd.specs.Rewrites as rewrites
-use Rattle.end_to_end.specs.OneWrong.{SameWords, PairGivesBack, NothingToRewrite, NothingElseToRewrite, RewriteKeepsValid}
+use Rattle.end_to_end.specs.OneWrong.{SameWords, PairGivesBack, NothingToRewrite, NothingElseToRewrite, RewriteKeepsValid, AbsentAre, RestoreAsRewrite}
 use Rattle.checking.proofs.Located.{locate-passed, valid-passes}
 use Rattle.evenodd.proofs.Rewritten.{between, agrees-self, one-but, rewrite-told}
+use Rattle.end_to_end.specs.OneOrNothing.{Fits, NoneFits, OneOrNothing}
+use Rattle.end_to_end.proofs.OneOrNothing.{one-or-nothing, alone, gives-it}
 
 -- rewrite of a column, where a valid stripe v agrees with all others: it passes, and leaves v
 pub rewrite-leaves : (m k b u : ℕ) → Shape m k b → u < k + 2 → (s v after : List ℕ) → length s ≡ stripeLength m k b → Valid m k b v → AgreesBut m k b u s v → (q : Rewritten) → Rewrites m k b u s after q
@@ -188,3 +190,39 @@ same-words m k b s r q st c p = (
 
     check-passes : Gives (locateRules m k b s) pass → checks.verdictOf r ≡ pass
     check-passes g = gives-one (stripeRules m k b (length s)) _ _ (c .told) (gives-passed (stripeRules m k b (length s)) (unmendable m k b s ∷ []) g .0)
+
+-- ---- restore and rewrite of one column
+
+-- columns that are absent, by the list of them
+module _ (k : ℕ) (columns : List ℕ) (map : List Bool) (a : AbsentAre k columns map) where
+  pub read : (t : ℕ) → t < k + 2 → member t columns ≡ false → present map t ≡ true
+  read t ht e = a .at t ht ∙ ap not e
+
+  pub not-read : (t : ℕ) → t < k + 2 → present map t ≡ true → member t columns ≡ false
+  not-read t ht p = unlisted (member t columns) (sym (a .at t ht) ∙ p)
+    where
+      unlisted : (c : Bool) → not c ≡ true → c ≡ false
+      unlisted true e = sym e
+      unlisted false e = refl
+
+  pub few-absent : absences k map ≤ length columns
+  unfolding absences
+  few-absent = listed-pass (k + 2) columns (λ t. not (present map t)) (λ t ht e. ap not (read t ht e))
+
+pub restore-as-rewrite : RestoreAsRewrite
+unfolding RestoreAsRewrite OneOrNothing
+restore-as-rewrite m k b column map s before after left r rewritten.Done a inside absent few p w =
+    let fits : Fits m k b (map .places) s left
+    = record { valid = w .left .0; agrees = record { at = λ t ht here. w .left .1 .at t ht (λ e. true≢false (sym here ∙ ap (present (map .places)) e ∙ absent)) } } in
+    (λ _. gives-it m k b map s before after left r a p (alone m k b (a .shape) (map .places) s left few fits), λ _ e. absurd (let z : _≡_ {A = ℕ} 0 1 = cc in omega arith))
+restore-as-rewrite m k b column map s before after left r (rewritten.Refused f) a inside absent few p w =
+    (λ e. absurd (let z : _≡_ {A = ℕ} 0 1 = cc in omega arith), λ only _. one-or-nothing m k b map s before after r a p .contradicted .1 (none only asked))
+  where
+    asked : Gives (columnRules m k b column s) (refuse f)
+    asked = gives-rest (stripeRules m k b (length s)) (columnRules m k b column s) _ (stripe-passed m k b (length s) (a .shape) (a .stripe .whole)) (w .told)
+
+    none : AbsentAre k (column ∷ []) (map .places) → Gives (columnRules m k b column s) (refuse f) → NoneFits m k b (map .places) s
+    none only (inl out) = absurd (omega (arith, out .0))
+    none only (inr (_, inl (never, e))) =
+        λ v f. never v (f .valid) (record { at = λ t ht ne. f .agrees .at t ht (read k (column ∷ []) (map .places) only t ht (rw (ne-eqb column t (λ q. ne (sym q))) refl)) })
+    none only (inr (_, inr (_, e))) = absurd (passes-not f (sym e))

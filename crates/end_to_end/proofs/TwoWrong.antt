@@ -1,43 +1,34 @@
--- Two wrong columns: the statements of specs/EndToEnd about a valid stripe of which exactly two columns were changed, and what restore with one column absent
--- has in common with rewrite.
+-- Two wrong columns: the proofs of the statements about a valid stripe of which exactly two columns were changed.
 use mathlib.Core.Path.{_≡_, refl, sym, ap, _∙_}
 use mathlib.Core.Logic.{_≢_, _⊎_, inl, inr}
-use mathlib.Core.Bool.{Bool, true, false, not, true≢false}
+use mathlib.Core.Bool.{Bool, true, false, true≢false}
 use mathlib.Core.List.{List, [], _∷_}
-use Prim.Native.Nat.{ℕ, _+_, _≤_, _<_}
-use native.Mathlib.Omega.{arith}
+use Prim.Native.Nat.{ℕ, _+_, _<_}
 use lib.ListN.{length}
-use borrow.Author.Tests.{eq-eqb, ne-eqb}
-use Rattle.parity.specs.Shape.{member, Shape}
+use borrow.Author.Tests.{eq-eqb}
+use Rattle.parity.specs.Shape.{Shape}
 use Rattle.parity.specs.Stripe.{Valid, Blank, Intact}
-use Rattle.parity.specs.Presence.{present, absences, differs, Agrees}
-use Rattle.parity.specs.Theorems.{AtMostOne, ExactlyOne, IntactOrBlank, TwoChanged, TwoWrong, AnyThird}
+use Rattle.parity.specs.Presence.{present, differs, Agrees}
+use Rattle.parity.specs.Theorems.{ExactlyOne, IntactOrBlank, TwoChanged, TwoWrong, AnyThird}
 use Rattle.parity.proofs.Columns.{differs-back, differs-alike, differs-apart}
-use Rattle.parity.proofs.Count.{listed-pass}
-use Rattle.parity.proofs.Theorems.{at-most-one, exactly-one, intact-or-blank}
+use Rattle.parity.proofs.Theorems.{exactly-one, intact-or-blank}
 use Rattle.parity.proofs.TwoWrong.{first-changed, second-changed, others-same, near-two, two-wrong, any-third}
 use Rattle.refusals.specs.declared.Refusal.the-variants.{Contradicted, Unmendable}
-use Rattle.refusals.specs.Refusals.{pass, refuse, Gives}
+use Rattle.refusals.specs.Refusals.{pass, Gives}
 use Rattle.refusals.proofs.Rules.{passes-not, refuse-one, gives-one, gives-rest}
-use Rattle.maps.specs.declared.Map.{Map}
 use Rattle.inputs.specs.Rules.{unmendable, stripeRules}
 use Rattle.inputs.proofs.Stripe.{stripe-passed}
 use Rattle.checking.specs.declared.checks.Checked.{Checked}
 use Rattle.checking.specs.declared.checks.Checked.the-variants as checked
 use Rattle.checking.specs.declared.locates.Located.{Located}
 use Rattle.checking.specs.declared.locates.Located.the-variants as located
-use Rattle.evenodd.specs.declared.restores.Restored.{Restored}
-use Rattle.evenodd.specs.declared.rewrites.Rewritten.the-variants as rewritten
 use Rattle.checking.specs.Checks.{Counted, Checks}
 use Rattle.checking.specs.Locates.{Locates}
-use Rattle.evenodd.specs.Rewrites.{columnRules}
-use Rattle.evenodd.specs.Restores.{verdictOf, Restores}
-use Rattle.end_to_end.specs.OneOrNothing.{Fits, FitsAlone, NoneFits, Together, Asked, OneOrNothing}
-use Rattle.end_to_end.specs.OneWrong.{AbsentAre, RestoreAsRewrite}
+use Rattle.end_to_end.specs.OneOrNothing.{Fits, NoneFits, OneOrNothing}
 use Rattle.end_to_end.specs.TwoWrong.{SixOrAThird, AnyThirdNamed, RewriteSeals, OneOfTwoAbsent, BothAbsent, OtherTwoAbsent}
 use Rattle.checking.proofs.Located.{locate-passed}
-use Rattle.end_to_end.proofs.OneOrNothing.{one-or-nothing}
-use Rattle.end_to_end.proofs.OneWrong.{rewrite-named, locate-names}
+use Rattle.end_to_end.proofs.OneOrNothing.{one-or-nothing, alone, gives-it}
+use Rattle.end_to_end.proofs.OneWrong.{rewrite-named, locate-names, not-read, few-absent}
 
 -- ---- what check and locate say
 
@@ -108,33 +99,6 @@ rewrite-seals m k b x y u s wrong after q c p w =
 
 -- ---- what restore says
 
--- columns that are absent, by the list of them
-module _ (k : ℕ) (columns : List ℕ) (map : List Bool) (a : AbsentAre k columns map) where
-  read : (t : ℕ) → t < k + 2 → member t columns ≡ false → present map t ≡ true
-  read t ht e = a .at t ht ∙ ap not e
-
-  not-read : (t : ℕ) → t < k + 2 → present map t ≡ true → member t columns ≡ false
-  not-read t ht p = unlisted (member t columns) (sym (a .at t ht) ∙ p)
-    where
-      unlisted : (c : Bool) → not c ≡ true → c ≡ false
-      unlisted true e = sym e
-      unlisted false e = refl
-
-  few-absent : absences k map ≤ length columns
-  unfolding absences
-  few-absent = listed-pass (k + 2) columns (λ t. not (present map t)) (λ t ht e. ap not (read t ht e))
-
--- a stripe that fits is the only one where at most two columns are absent
-alone : (m k b : ℕ) → Shape m k b → (map : List Bool) (s v : List ℕ) → absences k map ≤ 2 → Fits m k b map s v → FitsAlone m k b map s v
-unfolding AtMostOne
-alone m k b h map s v few f = record { fits = f; only = λ w g. at-most-one m k b h map few s w v (g .valid) (f .valid) (g .agrees) (f .agrees) }
-
--- where one fits alone, restore passes and gives it
-gives-it : (m k b : ℕ) (map : Map) (s before after v : List ℕ) (r : Restored) → Asked m k b map s before → Restores m k b map s before after r
-    → FitsAlone m k b (map .places) s v → (verdictOf r ≡ pass) × Together m k b (map .places) s after v
-unfolding OneOrNothing
-gives-it m k b map s before after v r a p f = let g = one-or-nothing m k b map s before after r a p in (g .given .1 (v, f), g .together v f)
-
 module _ (m k b x y : ℕ) (s wrong : List ℕ) (c : TwoChanged m k b x y s wrong) where
   -- with no column absent but one of the two no valid stripe fits: it would be s, which has another content in the other
   none-fits : (h : Shape m k b) (one other : ℕ) → other < k + 2 → one ≢ other → differs m b s wrong other ≡ true
@@ -182,21 +146,3 @@ other-two-absent m k b x y map s wrong before after r c a two some p =
     another : (v : List ℕ) → Fits m k b (map .places) wrong v → (present (map .places) x ≡ true) ⊎ (present (map .places) y ≡ true) → v ≢ s
     another v f (inl e) = not-first m k b x y s wrong c x (c .first) (first-changed m k b x y s wrong c) (map .places) e v f
     another v f (inr e) = not-first m k b x y s wrong c y (c .second) (second-changed m k b x y s wrong c) (map .places) e v f
-
-pub restore-as-rewrite : RestoreAsRewrite
-unfolding RestoreAsRewrite OneOrNothing
-restore-as-rewrite m k b column map s before after left r rewritten.Done a inside absent few p w =
-    let fits : Fits m k b (map .places) s left
-    = record { valid = w .left .0; agrees = record { at = λ t ht here. w .left .1 .at t ht (λ e. true≢false (sym here ∙ ap (present (map .places)) e ∙ absent)) } } in
-    (λ _. gives-it m k b map s before after left r a p (alone m k b (a .shape) (map .places) s left few fits), λ _ e. absurd (let z : _≡_ {A = ℕ} 0 1 = cc in omega arith))
-restore-as-rewrite m k b column map s before after left r (rewritten.Refused f) a inside absent few p w =
-    (λ e. absurd (let z : _≡_ {A = ℕ} 0 1 = cc in omega arith), λ only _. one-or-nothing m k b map s before after r a p .contradicted .1 (none only asked))
-  where
-    asked : Gives (columnRules m k b column s) (refuse f)
-    asked = gives-rest (stripeRules m k b (length s)) (columnRules m k b column s) _ (stripe-passed m k b (length s) (a .shape) (a .stripe .whole)) (w .told)
-
-    none : AbsentAre k (column ∷ []) (map .places) → Gives (columnRules m k b column s) (refuse f) → NoneFits m k b (map .places) s
-    none only (inl out) = absurd (omega (arith, out .0))
-    none only (inr (_, inl (never, e))) =
-        λ v f. never v (f .valid) (record { at = λ t ht ne. f .agrees .at t ht (read k (column ∷ []) (map .places) only t ht (rw (ne-eqb column t (λ q. ne (sym q))) refl)) })
-    none only (inr (_, inr (_, e))) = absurd (passes-not f (sym e))
