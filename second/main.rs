@@ -11,6 +11,7 @@ mod tally;
 mod two_wrong;
 
 use requests::Request;
+use std::fs::File;
 use std::io::{self, BufRead, BufWriter, Read, Write};
 use std::process::ExitCode;
 
@@ -18,6 +19,7 @@ const USAGE: &str = "usage: model shelf < image
        model numbers
        model asked
        model expected
+       model printed DIR
        model lies
        model two-wrong
        model selftest
@@ -67,6 +69,17 @@ fn run(arguments: &[&str], out: &mut impl Write) -> io::Result<bool> {
             for number in numbers::all() {
                 if number.request.is_some() {
                     writeln!(out, "{}", number.expected)?;
+                }
+            }
+            Ok(true)
+        }
+        ["printed", folder] => {
+            std::fs::create_dir(folder)?;
+            for number in numbers::all() {
+                if let Some(image) = number.image {
+                    // Fails where two numbers have one name.
+                    File::create_new(format!("{folder}/{}.img", number.name))?.write_all(&image)?;
+                    std::fs::write(format!("{folder}/{}.told", number.name), number.expected.replace('|', "\n"))?;
                 }
             }
             Ok(true)

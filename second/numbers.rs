@@ -5,10 +5,12 @@ use crate::code::*;
 use crate::image::shelf;
 use crate::requests::{Request, bytes_of, hex};
 
+/// A number is asked of the library as a request, or of the program `shelf` with an image; of one that is neither, the definitions tell.
 pub struct Number {
     pub name: &'static str,
     pub word: &'static str,
     pub request: Option<String>,
+    pub image: Option<Vec<u8>>,
     pub computed: String,
     pub expected: String,
 }
@@ -74,13 +76,14 @@ fn present(places: &[usize]) -> String {
 
 fn ask(name: &'static str, request: String, expected: String) -> Number {
     let parsed = Request::parse(&request).expect("the request is written rightly");
-    Number { name, word: parsed.word(), computed: parsed.answer(), request: Some(request), expected }
+    Number { name, word: parsed.word(), computed: parsed.answer(), request: Some(request), image: None, expected }
 }
 
 /// What `shelf` prints, with its line ends as `|`.
 fn printed(name: &'static str, image: &str, expected: String) -> Number {
     let image = bytes_of(image).expect("the bytes are written rightly");
-    Number { name, word: "shelf", request: None, computed: shelf(&image).replace('\n', "|"), expected }
+    let computed = shelf(&image).replace('\n', "|");
+    Number { name, word: "shelf", request: None, image: Some(image), computed, expected }
 }
 
 /// An image that ends after its header, and is refused.
@@ -293,6 +296,7 @@ pub fn all() -> Vec<Number> {
             name: "C1",
             word: "S",
             request: None,
+            image: None,
             computed: hex(&main_sum(c1_shape, &bytes(C1))),
             expected: s("18"),
         },
