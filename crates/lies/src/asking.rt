@@ -54,17 +54,21 @@ fn mark_lines(out: &mut Page, at: usize, name: &[u8], map: Map) -> usize {
     mark_line(out, h, map, 129, true)
 }
 
-// What is asked of the map: whether place 4 is present, whether one from 5 on is, and the gaps below 5, how many and the two lowest; and the map of the
-// map's bytes.
+// What is asked of the map: whether place 4 is present, whether one from 5 on is, and the gaps below 5, how many and the two lowest.
+fn say_answers(out: &mut Page, at: usize, map: Map) -> usize {
+    let next = say_number(out, at, map.is_present(4) as usize);
+    let strays = map.strays(5) as usize;
+    let gaps = map.gaps(5);
+    say_four(out, next, [strays, gaps.count, gaps.first, gaps.second])
+}
+
+// These answers, and the map of the map's bytes.
 fn question_line(out: &mut Page, at: usize, name: &[u8], map: Map) -> usize {
     let first = say_case(out, at, name, map);
     let second = say_word(out, first, b" questions");
-    let third = say_number(out, second, map.is_present(4) as usize);
-    let strays = map.strays(5) as usize;
-    let gaps = map.gaps(5);
-    let fourth = say_four(out, third, [strays, gaps.count, gaps.first, gaps.second]);
+    let third = say_answers(out, second, map);
     let bytes = map.bytes();
-    say_kept(out, fourth, Map::of_bytes(&bytes))
+    say_kept(out, third, Map::of_bytes(&bytes))
 }
 
 // All that is asked with one map.

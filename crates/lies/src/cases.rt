@@ -17,82 +17,72 @@ fn five() -> [bool; 129] {
     places
 }
 
-// All that is asked with the maps of these places and of four pairs of numbers.
+// All that is asked with the maps of these places and of four pairs of numbers, each how many are present and the highest.
 fn four_maps(
     out: &mut Page,
     at: usize,
     name: &[u8],
     places: [bool; 129],
-    present: [usize; 4],
-    highest: [usize; 4],
+    pairs: [usize; 8],
 ) -> usize {
     let mut next = at;
     for i in 0..4 {
-        let map = Map::of_parts(places, present[i], highest[i]);
+        let map = Map::of_parts(places, pairs[2 * i], pairs[2 * i + 1]);
         next = map_lines(out, next, name, map);
     }
     next
 }
 
 // All columns are present: the count and the highest place are right, one off, right in their last byte, and far out.
-fn five_present(out: &mut Page, at: usize) -> usize {
+pub(crate) fn five_present(out: &mut Page, at: usize) -> usize {
+    let places = five();
     let most = 18446744073709551615;
-    let a = four_maps(out, at, b"five", five(), [5, 4, 6, 4], [4, 4, 4, 5]);
-    let b = four_maps(out, a, b"five", five(), [5, 5, 5, 0], [3, 5, 129, 0]);
-    let c = four_maps(out, b, b"five", five(), [261, 5, 5, 0], [4, 260, 0, 129]);
+    let a = four_maps(out, at, b"five", places, [5, 4, 4, 4, 6, 4, 4, 5]);
+    let b = four_maps(out, a, b"five", places, [5, 3, 5, 5, 5, 129, 0, 0]);
+    let c = four_maps(out, b, b"five", places, [261, 4, 5, 260, 5, 0, 0, 129]);
     four_maps(
         out,
         c,
         b"five",
-        five(),
-        [most, 5, most, 4],
-        [4, most, most, 3],
+        places,
+        [most, 4, 5, most, most, most, 4, 3],
     )
 }
 
 // No place is present.
-fn none_present(out: &mut Page, at: usize) -> usize {
+pub(crate) fn none_present(out: &mut Page, at: usize) -> usize {
     let most = 18446744073709551615;
     let a = four_maps(
         out,
         at,
         b"none",
         [false; 129],
-        [0, 0, 0, 1],
-        [129, 0, 128, 129],
+        [0, 129, 0, 0, 0, 128, 1, 129],
     );
     four_maps(
         out,
         a,
         b"none",
         [false; 129],
-        [0, 256, 0, most],
-        [130, 129, most, most],
+        [0, 130, 256, 129, 0, most, most, most],
     )
 }
 
 // A place that is no column's, and columns absent: two, and three.
-fn columns_off(out: &mut Page, at: usize) -> usize {
+pub(crate) fn columns_off(out: &mut Page, at: usize) -> usize {
     let mut stray = five();
     stray[5] = true;
-    let a = four_maps(out, at, b"stray", stray, [6, 6, 5, 5], [5, 4, 5, 4]);
+    let a = four_maps(out, at, b"stray", stray, [6, 5, 6, 4, 5, 5, 5, 4]);
     let mut absent = five();
     absent[0] = false;
     absent[1] = false;
-    let b = four_maps(out, a, b"two-absent", absent, [3, 2, 5, 3], [4, 4, 4, 2]);
+    let b = four_maps(out, a, b"two-absent", absent, [3, 4, 2, 4, 5, 4, 3, 2]);
     absent[2] = false;
-    four_maps(
-        out,
-        b,
-        b"three-absent",
-        absent,
-        [2, 3, 5, 2],
-        [4, 4, 4, 129],
-    )
+    four_maps(out, b, b"three-absent", absent, [2, 4, 3, 4, 5, 4, 2, 129])
 }
 
 // Every place is present, and the last alone.
-fn last_place(out: &mut Page, at: usize) -> usize {
+pub(crate) fn last_place(out: &mut Page, at: usize) -> usize {
     let mut last = [false; 129];
     last[128] = true;
     let a = four_maps(
@@ -100,22 +90,13 @@ fn last_place(out: &mut Page, at: usize) -> usize {
         at,
         b"all",
         [true; 129],
-        [129, 129, 128, 130],
-        [128, 129, 128, 128],
+        [129, 128, 129, 129, 128, 128, 130, 128],
     );
-    four_maps(out, a, b"last", last, [1, 1, 1, 2], [128, 127, 129, 128])
-}
-
-// All of them.
-pub(crate) fn all_maps(out: &mut Page, at: usize) -> usize {
-    let a = five_present(out, at);
-    let b = none_present(out, a);
-    let c = columns_off(out, b);
-    last_place(out, c)
+    four_maps(out, a, b"last", last, [1, 128, 1, 127, 1, 129, 2, 128])
 }
 
 // A map that lies beside a wrong number of the shape, and beside a stripe of another length: restore.
-fn restore_faults(out: &mut Page, at: usize) -> usize {
+pub(crate) fn restore_faults(out: &mut Page, at: usize) -> usize {
     let c1 = [1u8, 2, 4, 8, 16, 32, 21, 42, 57, 30];
     let map = Map::of_parts(five(), 4, 4);
     let a = say_word(out, at, b"m+lie");
@@ -129,7 +110,7 @@ fn restore_faults(out: &mut Page, at: usize) -> usize {
 }
 
 // Beside a wrong m, a bench of another length, and a column and a place from k + 2 on: show.
-fn show_faults(out: &mut Page, at: usize) -> usize {
+pub(crate) fn show_faults(out: &mut Page, at: usize) -> usize {
     let bench = [161u8, 162, 163, 164];
     let map = Map::of_parts(five(), 4, 4);
     let mut six = five();
@@ -143,10 +124,4 @@ fn show_faults(out: &mut Page, at: usize) -> usize {
     let f = show_line(out, e, [3, 3, 1], map, &bench, 9);
     let g = say_word(out, f, b"column+lie+stray");
     show_line(out, g, [3, 3, 1], stray, &bench, 9)
-}
-
-// Both.
-pub(crate) fn other_faults(out: &mut Page, at: usize) -> usize {
-    let next = restore_faults(out, at);
-    show_faults(out, next)
 }

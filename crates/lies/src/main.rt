@@ -16,8 +16,12 @@ fn print(page: &words::Page, end: usize) {
 
 fn main() {
     let mut out = [0u8; 65536];
-    let first = cases::all_maps(&mut out, 0);
-    let second = cases::other_faults(&mut out, first);
-    let end = marking::one_by_one(&mut out, second);
+    let a = cases::five_present(&mut out, 0);
+    let b = cases::none_present(&mut out, a);
+    let c = cases::columns_off(&mut out, b);
+    let d = cases::last_place(&mut out, c);
+    let e = cases::restore_faults(&mut out, d);
+    let f = cases::show_faults(&mut out, e);
+    let end = marking::one_by_one(&mut out, f);
     print(&out, end);
 }

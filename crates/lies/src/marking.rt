@@ -15,6 +15,13 @@ fn say_mark(out: &mut Page, at: usize, present: bool) -> usize {
     }
 }
 
+// A place is marked.
+fn place_line(out: &mut Page, at: usize, map: Map, place: usize, present: bool) -> usize {
+    let first = say_mark(out, at, present);
+    let second = say_number(out, first, place);
+    mark_line(out, second, map, place, present)
+}
+
 // Places are marked, some of them twice, the lowest, the highest and those that no map has: four present, and then the same four absent.
 pub(crate) fn one_by_one(out: &mut Page, at: usize) -> usize {
     let most = 18446744073709551615;
@@ -24,9 +31,7 @@ pub(crate) fn one_by_one(out: &mut Page, at: usize) -> usize {
     for i in 0..24 {
         let place = places[i / 8 * 4 + i % 4];
         let present = i % 8 < 4;
-        let first = say_mark(out, next, present);
-        let second = say_number(out, first, place);
-        next = mark_line(out, second, map, place, present);
+        next = place_line(out, next, map, place, present);
         map = marked(map, place, present);
     }
     next

@@ -5,10 +5,10 @@ use Rattle.lies.proofs.cases.four_maps.Statement.{statement}
 use Rattle.lies.proofs.cases.four_maps.Tie as tie
 
 abbrev Inv-loop : tie.InvT-loop
-Inv-loop out₀ at name places present highest next₀ i₀ out next i = i ≤ 4
+Inv-loop out₀ at name places pairs next₀ i₀ out next i = i ≤ 4
 
 abbrev μ-loop : tie.MeasureT-loop
-μ-loop out₀ at name places present highest next₀ i₀ out next i = 4 - i
+μ-loop out₀ at name places pairs next₀ i₀ out next i = 4 - i
 
 loop-holds : tie.Need-loop-holds Inv-loop μ-loop
 loop-holds c = search needs
@@ -16,11 +16,20 @@ loop-holds c = search needs
 mul-of-parts : tie.Need-mul-of-parts Inv-loop μ-loop
 mul-of-parts c = search needs
 
+mul-of-parts-2 : tie.Need-mul-of-parts-2 Inv-loop μ-loop
+mul-of-parts-2 c = search needs
+
 array-read-of-parts : tie.Need-array-read-of-parts Inv-loop μ-loop
 array-read-of-parts c = search needs
 
-mul-of-parts-2 : tie.Need-mul-of-parts-2 Inv-loop μ-loop
-mul-of-parts-2 c = search needs
+mul-of-parts-3 : tie.Need-mul-of-parts-3 Inv-loop μ-loop
+mul-of-parts-3 c = search needs
+
+add-of-parts : tie.Need-add-of-parts Inv-loop μ-loop
+add-of-parts c = search needs
+
+mul-of-parts-4 : tie.Need-mul-of-parts-4 Inv-loop μ-loop
+mul-of-parts-4 c = search needs
 
 array-read-of-parts-2 : tie.Need-array-read-of-parts-2 Inv-loop μ-loop
 array-read-of-parts-2 c = search needs
@@ -51,8 +60,11 @@ four-maps-spec =
     μ-loop
     loop-holds
     mul-of-parts
-    array-read-of-parts
     mul-of-parts-2
+    array-read-of-parts
+    mul-of-parts-3
+    add-of-parts
+    mul-of-parts-4
     array-read-of-parts-2
     of-parts-requires
     map-lines-requires

@@ -28,14 +28,8 @@ mul-place-2 c = search needs
 array-read-place : tie.Need-array-read-place Inv-loop μ-loop
 array-read-place c = search needs
 
-say-mark-requires : tie.Need-say-mark-requires Inv-loop μ-loop
-say-mark-requires c κs = search needs
-
-say-number-requires : tie.Need-say-number-requires Inv-loop μ-loop
-say-number-requires c κs = search needs
-
-mark-line-requires : tie.Need-mark-line-requires Inv-loop μ-loop
-mark-line-requires c κs = search needs
+place-line-requires : tie.Need-place-line-requires Inv-loop μ-loop
+place-line-requires c κs = search needs
 
 marked-requires : tie.Need-marked-requires Inv-loop μ-loop
 marked-requires c κs = search needs
@@ -64,9 +58,7 @@ one-by-one-spec =
     add-place
     mul-place-2
     array-read-place
-    say-mark-requires
-    say-number-requires
-    mark-line-requires
+    place-line-requires
     marked-requires
     add-i
     loop-less
