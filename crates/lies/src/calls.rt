@@ -1,4 +1,4 @@
-// The calls that take a map, and the marks of it. What each answers ends a line, in the form `OPERATION ANSWER`; whoever calls has said what is asked.
+// The calls that take a map, and its marks: each ends a line whose start says the case. Of a mark the start says the place too.
 use crate::words::Page;
 use crate::words::say_bench;
 use crate::words::say_four;
