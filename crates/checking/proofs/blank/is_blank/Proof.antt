@@ -1,4 +1,4 @@
--- `evenodd::blank::is_blank` meets its contract: a list is zeros exactly when what stands before a place is, and what stands from there on.
+-- `checking::blank::is_blank` meets its contract: a list is zeros exactly when what stands before a place is, and what stands from there on.
 use mathlib.Core.Path.{_≡_, sym, ap, _∙_}
 use mathlib.Core.Bool.{true≢false}
 use mathlib.Core.List.{List}

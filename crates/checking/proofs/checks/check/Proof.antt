@@ -1,4 +1,4 @@
--- `evenodd::checks::check` meets its contract: the tests, whether the stripe is blank, and the counts of the loops below.
+-- `checking::checks::check` meets its contract: the tests, whether the stripe is blank, and the counts of the loops below.
 use mathlib.Core.Path.{sym}
 use mathlib.Core.List.{[]}
 use lib.ListN.{length}

@@ -1,4 +1,4 @@
--- `evenodd::checks::told` meets its contract: what the tests on the way to each answer said.
+-- `checking::checks::told` meets its contract: what the tests on the way to each answer said.
 use mathlib.Core.Path.{_≡_, refl, sym}
 use Prim.Native.Nat.{ℕ}
 use native.Mathlib.Omega.{arith}

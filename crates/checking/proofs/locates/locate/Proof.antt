@@ -1,4 +1,4 @@
--- `evenodd::locates::locate` meets its contract: the tests, whether the stripe is blank, and what each suspect says of valid stripes.
+-- `checking::locates::locate` meets its contract: the tests, whether the stripe is blank, and what each suspect says of valid stripes.
 use mathlib.Core.Path.{subst}
 use mathlib.Core.List.{[], _∷_}
 use lib.ListN.{length}
