@@ -11,7 +11,7 @@ mod tally;
 mod two_wrong;
 
 use requests::Request;
-use std::fs::File;
+use std::fs::OpenOptions;
 use std::io::{self, BufRead, BufWriter, Read, Write};
 use std::process::ExitCode;
 
@@ -78,7 +78,8 @@ fn run(arguments: &[&str], out: &mut impl Write) -> io::Result<bool> {
             for number in numbers::all() {
                 if let Some(image) = number.image {
                     // Fails where two numbers have one name.
-                    File::create_new(format!("{folder}/{}.img", number.name))?.write_all(&image)?;
+                    let path = format!("{folder}/{}.img", number.name);
+                    OpenOptions::new().write(true).create_new(true).open(path)?.write_all(&image)?;
                     std::fs::write(format!("{folder}/{}.told", number.name), number.expected.replace('|', "\n"))?;
                 }
             }
