@@ -1,5 +1,5 @@
 // Stripes kept in the EVENODD code: encode, check, restore, locate, rewrite, change, changes and show. Nothing here asks anything of its caller: bad input is
-// refused by number, and a refused call changes no byte that was lent. Refusals, maps and shapes are handed on from the crates below.
+// refused by number, and a refused call changes no byte that was lent. Check and locate, refusals, maps and shapes are handed on from the crates below.
 mod encodes;
 mod many_cells;
 mod one_cell;
