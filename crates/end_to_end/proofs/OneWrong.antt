@@ -195,7 +195,7 @@ same-words m k b s r q st c p = (
 
 -- columns that are absent, by the list of them
 module _ (k : ℕ) (columns : List ℕ) (map : List Bool) (a : AbsentAre k columns map) where
-  pub read : (t : ℕ) → t < k + 2 → member t columns ≡ false → present map t ≡ true
+  read : (t : ℕ) → t < k + 2 → member t columns ≡ false → present map t ≡ true
   read t ht e = a .at t ht ∙ ap not e
 
   pub not-read : (t : ℕ) → t < k + 2 → present map t ≡ true → member t columns ≡ false
