@@ -1,4 +1,6 @@
 // Runs of bytes: added (exclusive or), copied, cleared and tested, byte for byte.
+#![tactic(auto)]
+
 ghost use Rattle.std.specs.Prelude.{◌≡◌, ◌↔◌, true, ℕ, ◌+◌, ◌≤◌, ◌<◌, length, get_or};
 ghost use Rattle.parity.specs.Xor.{◌⊕◌};
 ghost use Rattle.cells.specs.Runs.{Added, Put, Through, Exchanged, Tells, First, Zeros};

@@ -1,6 +1,8 @@
 // One data cell of a stripe changed, or several one after another, and with each the parity cells that depend on it: H's cell in its row, and D's cell of its
 // diagonal, or every cell of D where it lies on the diagonal of S. Each gets added what the cell changes by. Nothing else is read or written, so the cost does
 // not grow with k, and with m on the diagonal of S alone.
+#![tactic(auto)]
+
 mod many_cells;
 
 ghost use Rattle.std.specs.Prelude.{◌≡◌, ◌+◌, ◌-◌, ◌*◌, ◌≤◌, ◌<◌, length};

@@ -9,7 +9,7 @@ use lines::Grid;
 use refusals::Refusal;
 
 // What check answers: the stripe is intact, or blank, or so many rows and diagonals break; or why not.
-#[derive(Drop)]
+#[derive(Clone, Copy)]
 pub enum Checked {
     Intact,
     Blank,

@@ -1,4 +1,6 @@
 // The calls that look at a stripe and write nothing: check and locate. Nothing here asks anything of its caller: bad input is refused by number.
+#![tactic(auto)]
+
 mod blank;
 mod checks;
 mod locates;

@@ -9,7 +9,7 @@ use locating::Suspect;
 use refusals::Refusal;
 
 // What locate answers: the stripe is intact, or blank, or the one column in which a valid stripe differs from it; or why not.
-#[derive(Drop)]
+#[derive(Clone, Copy)]
 pub enum Located {
     Intact,
     Blank,

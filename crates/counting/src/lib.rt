@@ -1,6 +1,8 @@
 // How many lines of a stripe break: of its rows, of its diagonals, and of those that tell whether the columns other than one fit a valid stripe;
 // and one row that does.
 // Only local arrays are written, and a column that is left out is not read.
+#![tactic(auto)]
+
 mod long;
 mod short;
 mod testing;
@@ -16,7 +18,7 @@ use long::count_long;
 use short::{count_short, count_small};
 use testing::Broken;
 
-#[derive(Drop)]
+#[derive(Clone, Copy)]
 pub struct Counts {
     pub rows: usize,
     pub diagonals: usize,

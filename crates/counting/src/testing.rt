@@ -10,7 +10,7 @@ use lines::{Columns, Grid};
 
 // A piece of line d of those that leave column u out: its cells in the data columns from `from` up to `to`, and where these are the first also
 // those in H and D.
-#[derive(Drop)]
+#[derive(Clone, Copy)]
 pub(crate) struct Piece {
     pub(crate) u: usize,
     pub(crate) d: usize,
@@ -19,7 +19,7 @@ pub(crate) struct Piece {
 }
 
 // What was found of some lines: how many break, and the last that was seen to. Once `enough` of them break, the others are not looked at.
-#[derive(Drop)]
+#[derive(Clone, Copy)]
 pub(crate) struct Broken {
     pub(crate) count: usize,
     pub(crate) last: usize,

@@ -3,6 +3,8 @@
 // columns are taken in groups of eight, and a group after the first adds to what the cells hold. Short cells: S goes to every cell of D,
 // and whole columns are added one after another, to D in two runs.
 // A sum begins with a seed, the bytes of the stripe from a place on; from its end on there are none, and the sum begins with zero.
+#![tactic(auto)]
+
 ghost use Rattle.std.specs.Prelude.{◌≡◌, true, false, cond, ◌+◌, ◌-◌, ◌*◌, ◌≤◌, ◌<◌, eqb, length, get_or};
 ghost use Rattle.parity.specs.Xor.{◌⊕◌};
 ghost use Rattle.parity.specs.Stripe.{lane};

@@ -6,7 +6,7 @@ use lines::Grid;
 use refusals::Refusal;
 
 // What encode answers.
-#[derive(Drop)]
+#[derive(Clone, Copy)]
 pub enum Encoded {
     Done,
     Refused(Refusal),

@@ -1,5 +1,7 @@
 // Stripes kept in the EVENODD code: encode, check, restore, locate, rewrite, change, changes and show. Nothing here asks anything of its caller: bad input is
 // refused by number, and a refused call changes no byte that was lent. Check and locate, refusals, maps and shapes are handed on from the crates below.
+#![tactic(auto)]
+
 mod encodes;
 mod many_cells;
 mod one_cell;

@@ -7,7 +7,7 @@ use lines::Grid;
 use refusals::Refusal;
 
 // What changes answers. Where an item is refused, its number stands with the refusal.
-#[derive(Drop)]
+#[derive(Clone, Copy)]
 pub enum ChangedAll {
     Done,
     Refused(Refusal),

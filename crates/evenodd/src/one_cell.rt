@@ -6,7 +6,7 @@ use lines::Grid;
 use refusals::Refusal;
 
 // What change answers.
-#[derive(Drop)]
+#[derive(Clone, Copy)]
 pub enum Changed {
     Done,
     Refused(Refusal),

@@ -9,7 +9,7 @@ use maps::{Gaps, Map};
 use refusals::Refusal;
 
 // What restore answers: how many columns it restored and their numbers, 129 standing for none; or why not.
-#[derive(Drop)]
+#[derive(Clone, Copy)]
 pub enum Restored {
     Columns {
         count: usize,

@@ -6,7 +6,7 @@ use lines::Grid;
 use refusals::Refusal;
 
 // What rewrite answers.
-#[derive(Drop)]
+#[derive(Clone, Copy)]
 pub enum Rewritten {
     Done,
     Refused(Refusal),

@@ -6,7 +6,7 @@ use maps::Map;
 use refusals::Refusal;
 
 // Where a column is shown: from a byte on, so many bytes, in the stripe or in the bench; or why not.
-#[derive(Drop)]
+#[derive(Clone, Copy)]
 pub enum Place {
     InStripe { start: usize, length: usize },
     InBench { start: usize, length: usize },

@@ -5,14 +5,14 @@ ghost use Rattle.maps.specs.Maps.{New};
 use evenodd::{Map, Refusal};
 
 // The shape that an image has, or why it is refused: the shape is then 0 0 0.
-#[derive(Drop)]
+#[derive(Clone, Copy)]
 pub enum Read {
     Shape { m: usize, k: usize, b: usize },
     Refused(Refusal),
 }
 
 // The shape, and the columns that are present: none where the image is refused.
-#[derive(Drop)]
+#[derive(Clone, Copy)]
 pub struct Contents {
     pub answer: Read,
     pub map: Map,

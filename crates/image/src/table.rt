@@ -5,7 +5,7 @@ ghost use Rattle.image.specs.Entries.{entry_at, StateOf, WalkedContents};
 use crate::numbers::{four, two};
 
 // What an entry says of its column.
-#[derive(Drop)]
+#[derive(Clone, Copy)]
 enum State {
     Present,
     Absent,
@@ -13,7 +13,7 @@ enum State {
 }
 
 // What is known after some entries: whether each is right, which places are present, and where the next body begins.
-#[derive(Drop)]
+#[derive(Clone, Copy)]
 pub(crate) struct Table {
     pub(crate) right: bool,
     pub(crate) places: [bool; 129],

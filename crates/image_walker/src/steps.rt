@@ -7,7 +7,7 @@ use evenodd::{Map, Refusal};
 use image::Read;
 
 // A present column: its number, where its body starts in the image, and how many bytes that has; or that none is left; or why the step is refused.
-#[derive(Drop)]
+#[derive(Clone, Copy)]
 pub enum Found {
     Column {
         column: usize,
@@ -19,7 +19,7 @@ pub enum Found {
 }
 
 // What was found, and the place where the next step begins: the column's number plus one, k + 2 at the end, and the same place on a refusal.
-#[derive(Drop)]
+#[derive(Clone, Copy)]
 pub struct Step {
     pub found: Found,
     pub next: usize,

@@ -4,7 +4,7 @@ ghost use Rattle.image_walker.specs.Walks.{Walks};
 
 use crate::steps::{Found, Step, part_at, step_at};
 
-#[derive(Drop)]
+#[derive(Clone, Copy)]
 pub struct Walker<'a> {
     pub image: &'a [u8],
     pub place: usize,

@@ -8,7 +8,7 @@ use inputs::judge_stripe;
 use maps::reaches;
 
 // The length of the image that was written, or why none was: the length is then 0.
-#[derive(Drop)]
+#[derive(Clone, Copy)]
 pub enum Written {
     Length(usize),
     Refused(Refusal),

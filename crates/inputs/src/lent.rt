@@ -7,7 +7,7 @@ use maps::{Gaps, Map, reaches};
 use refusals::Refusal;
 
 // What is found where at most two columns are absent: the bytes of a column, and the gaps; or why not.
-#[derive(Drop)]
+#[derive(Clone, Copy)]
 pub enum Given {
     Good { column: usize, gaps: Gaps },
     Refused(Refusal),

@@ -1,4 +1,6 @@
 // What a call is given, and which refusal it gets: shape numbers, lengths, the map of what is present, and lists of cells.
+#![tactic(auto)]
+
 mod lent;
 mod lists;
 mod shapes;

@@ -7,7 +7,7 @@ use crate::shapes::Judged;
 use refusals::Refusal;
 
 // What is found of the items: each names a cell of the data; or the first that does not, and why.
-#[derive(Drop)]
+#[derive(Clone, Copy)]
 pub enum Items {
     Good,
     Refused(usize, Refusal),

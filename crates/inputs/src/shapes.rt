@@ -5,7 +5,7 @@ ghost use Rattle.inputs.specs.Shapes.{Judges, refusal_of};
 use refusals::Refusal;
 
 // What the shape check says: the bytes of a column, of a shape that keeps the rules; or the refusal.
-#[derive(Drop)]
+#[derive(Clone, Copy)]
 pub enum Judged {
     Good { column: usize },
     Refused(Refusal),

@@ -1,4 +1,6 @@
 // What is judged of a shelf image: it is read and restored, and what came of it is said.
+#![tactic(auto)]
+
 ghost use Rattle.std.specs.Prelude.{◌≡◌, ◌↔◌, true, ◌≤◌, length};
 ghost use Rattle.parity.specs.Shape.{stripe_length, bench_length};
 ghost use Rattle.parity.specs.Presence.{absences};
@@ -9,7 +11,7 @@ use evenodd::{Map, Refusal, Restored};
 use image::Read;
 
 // The three numbers of a shape.
-#[derive(Drop)]
+#[derive(Clone, Copy)]
 pub struct Shape {
     pub m: usize,
     pub k: usize,
@@ -18,7 +20,7 @@ pub struct Shape {
 
 // What came of an image: every column is there, in the stripe or in the bench, and some byte is not zero; every column is there, and every byte is zero; three
 // or more are absent; those that are present contradict each other; or the image is refused without a shape.
-#[derive(Drop)]
+#[derive(Clone, Copy)]
 pub enum Outcome {
     Complete(Shape),
     Blank(Shape),
@@ -28,7 +30,7 @@ pub enum Outcome {
 }
 
 // The outcome, and the columns that the image has: none where it is refused.
-#[derive(Drop)]
+#[derive(Clone, Copy)]
 pub struct Judgement {
     pub outcome: Outcome,
     pub map: Map,

@@ -1,5 +1,7 @@
 // Makes maps of places and of any two numbers, most of which lie, asks with them each call that takes a map, and prints what the library answers, one line
 // each. What is printed is compared with the stored text.
+#![tactic(auto)]
+
 mod asking;
 mod calls;
 mod cases;

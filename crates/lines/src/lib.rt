@@ -1,6 +1,8 @@
 // Lines of cells in a stripe, and where their cells stand. A row goes straight across the columns (slant 0). A diagonal (slant 1) begins in the row of
 // its number; its row goes down by one at each column, and jumps from 0 to m - 1, the imaginary row, which is zero. A line ends in a parity column: a row with
 // H's cell in that row, a diagonal with D's cell in the row of its number. Row 0 stands at the top, so a row that goes down by one is the row above.
+#![tactic(auto)]
+
 ghost use Rattle.std.specs.Prelude.{◌≡◌, ◌⊎◌, ◌+◌, ◌*◌, ◌-◌, ◌≤◌, ◌<◌, length, get_or};
 ghost use Rattle.parity.specs.Xor.{◌⊕◌};
 ghost use Rattle.parity.specs.Equations.{back};
@@ -11,7 +13,7 @@ ghost use Rattle.lines.specs.Places.{without, window, total, Within, Listed, Fol
 ghost use Rattle.lines.specs.Rows.{Lined};
 
 // The numbers of a shape, and the bytes of a column.
-#[derive(Drop)]
+#[derive(Clone, Copy)]
 pub struct Grid {
     pub m: usize,
     pub k: usize,
@@ -20,7 +22,7 @@ pub struct Grid {
 }
 
 // Some columns of a stripe: those from `from` up to `to`, but u and v. A number that no column of the stripe has leaves none out.
-#[derive(Drop)]
+#[derive(Clone, Copy)]
 pub struct Columns {
     pub from: usize,
     pub to: usize,

@@ -1,5 +1,7 @@
 // Which column of a stripe is the wrong one. Where a row breaks, one lane at which it does tells which column alone can be it, and then every lane is
 // asked; where no row does, it can be D alone. No bench is needed: a row is summed in room of a cell.
+#![tactic(auto)]
+
 mod amounts;
 mod confirming;
 
@@ -15,7 +17,7 @@ pub use confirming::locate;
 use lines::Grid;
 
 // The column that can be the wrong one, if any is wrong.
-#[derive(Drop)]
+#[derive(Clone, Copy)]
 pub enum Suspect {
     Nothing,
     Column(usize),

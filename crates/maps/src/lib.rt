@@ -1,5 +1,7 @@
 // The presence map: 129 places, each present or absent, and two numbers: how many are present, and the highest present one. Only this file
 // looks into its array.
+#![tactic(auto)]
+
 ghost use Rattle.std.specs.Prelude.{◌≡◌, Bool, true, false, cond, List, ◌↔◌, ◌+◌, ◌≤◌, ◌<◌, ltb, length, set};
 ghost use Rattle.parity.specs.Sum.{count};
 ghost use Rattle.parity.specs.Presence.{present};
@@ -12,7 +14,7 @@ use refusals::Refusal;
 
 // `present` is how many places are present, and `highest` the highest of them; 129 stands for none. Anybody may read and set these two numbers, so a map may
 // lie: they are then not what its places say. Every call refuses such a map.
-#[derive(Drop)]
+#[derive(Clone, Copy)]
 pub struct Map {
     places: [bool; 129],
     pub present: usize,
@@ -20,7 +22,7 @@ pub struct Map {
 }
 
 // How many places are absent, and the two lowest of them; 129 stands for none.
-#[derive(Drop)]
+#[derive(Clone, Copy)]
 pub struct Gaps {
     pub count: usize,
     pub first: usize,
@@ -28,7 +30,7 @@ pub struct Gaps {
 }
 
 // Whether a place can be marked, or why not.
-#[derive(Drop)]
+#[derive(Clone, Copy)]
 pub enum Marked {
     Done,
     Refused(Refusal),

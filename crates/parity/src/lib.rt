@@ -1,4 +1,6 @@
 // The accepted values of m.
+#![tactic(auto)]
+
 ghost use Rattle.std.specs.Prelude.{◌≡◌};
 ghost use Rattle.parity.specs.Shape.{accepted, member};
 

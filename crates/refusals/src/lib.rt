@@ -1,9 +1,11 @@
 // Why a call is refused: the refusals, and the number of each.
+#![tactic(auto)]
+
 ghost use Rattle.std.specs.Prelude.{◌≡◌};
 ghost use Rattle.refusals.specs.Refusals.{number_of};
 
 // Why a call is refused. Every call of the shelf refuses with one of these, and each has one number.
-#[derive(Drop)]
+#[derive(Clone, Copy)]
 pub enum Refusal {
     WrongM,
     StripeLength,

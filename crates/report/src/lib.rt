@@ -1,4 +1,6 @@
 // What is told of a shelf image: it is judged, and the answer written as lines of text.
+#![tactic(auto)]
+
 mod telling;
 mod writing;
 

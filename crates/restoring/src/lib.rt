@@ -2,6 +2,8 @@
 // column is never read: every sum leaves out columns u and v, of which 129, which no stripe has, stands for none; H and D are summed whole only where both
 // are there. A row with H's cell is zero, and a diagonal with D's cell is S: what is left of them is what the absent columns have there. Row m - 1 is
 // imaginary, and zero. While cells are summed, the last of them holds what each begins with: nothing for rows, S for diagonals.
+#![tactic(auto)]
+
 ghost use Rattle.std.specs.Prelude.{◌≡◌, ◌+◌, ◌-◌, ◌*◌, ◌%◌, ◌≤◌, ◌<◌, length, get_or};
 ghost use Rattle.parity.specs.Xor.{◌⊕◌};
 ghost use Rattle.parity.specs.Sum.{sum};

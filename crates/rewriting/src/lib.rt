@@ -1,4 +1,6 @@
 // The rewriting of one column in place: it becomes what the other columns say that it must be. It is not read.
+#![tactic(auto)]
+
 ghost use Rattle.std.specs.Prelude.{◌+◌, ◌*◌, ◌-◌, ◌≤◌, ◌<◌, length};
 ghost use Rattle.lines.specs.Lines.{Laid};
 ghost use Rattle.restoring.specs.Restoring.{Band};

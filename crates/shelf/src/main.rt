@@ -1,4 +1,6 @@
 // Reads one shelf image from standard input, and tells what became of it: the shape, its columns and the answer.
+#![tactic(auto)]
+
 mod reading;
 mod telling;
 

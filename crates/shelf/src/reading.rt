@@ -3,7 +3,7 @@ ghost use Rattle.std.specs.Prelude.{◌≡◌, ◌+◌, ◌<◌, ◌^◌, length
 ghost use Rattle.shelf.specs.Reading.{input_after, Nears, Taken};
 
 // What is known of the input: so many bytes were read and there may be more; it has so many bytes; or a read failed.
-#[derive(Drop)]
+#[derive(Clone, Copy)]
 pub(crate) enum Input {
     More(usize),
     Whole(usize),

@@ -1,6 +1,8 @@
 // Sums of lines of a stripe s, set in the cells of another buffer: a half of a bench, or room of a call's own. Long cells: for each cell, for each
 // block of its lanes, a sum over the places of a line's cells that is kept in a small array and written once; at most eight columns are taken
 // at once. Short cells: whole columns are added one after another, each turned as its lines ask, in two runs.
+#![tactic(auto)]
+
 ghost use Rattle.std.specs.Prelude.{◌≡◌, cond, ◌+◌, ◌*◌, ◌-◌, ◌≤◌, ◌<◌, eqb, length, get_or};
 ghost use Rattle.parity.specs.Xor.{◌⊕◌};
 ghost use Rattle.cells.specs.Runs.{Put};

@@ -1,5 +1,7 @@
 // Text written into a lent buffer, piece after piece: bytes, words, decimal numbers and lower-case hex. Each call writes at a place and answers
 // the place after it; what stands before the place, and after the text, stays.
+#![tactic(auto)]
+
 ghost use Rattle.std.specs.Prelude.{◌≡◌, [], ◌∷◌, ◌+◌, ◌*◌, ◌≤◌, ◌<◌, length};
 ghost use Rattle.text.specs.Text.{glyph, two, three, four, decimal, hex_byte, hex, Wrote};
 

@@ -1,4 +1,6 @@
 // Two columns that stand mixed with one another in the halves of a buffer are parted again.
+#![tactic(auto)]
+
 ghost use Rattle.std.specs.Prelude.{◌≡◌, ℕ, ◌*◌, ◌-◌, ◌≤◌, ◌<◌, length};
 ghost use Rattle.parity.specs.Stripe.{lane};
 ghost use Rattle.lines.specs.Lines.{Sized};

@@ -1,0 +1,53 @@
+-- `checking::checks::check` meets its contract: the tests, whether the stripe is blank, and the counts of the loops below.
+use mathlib.Core.Path.{sym}
+use lib.ListN.{length}
+use native.Mathlib.Omega.{arith}
+use Rattle.refusals.specs.Refusals.{pass, Gives}
+use Rattle.inputs.specs.Rules.{stripe_rules}
+use Rattle.refusals.proofs.Rules.{passes_not}
+use Rattle.inputs.proofs.Tests.{told_refused, Numbers, stripe_good}
+use Rattle.inputs.proofs.Stripe.{stripe_passed}
+use Rattle.lines.proofs.Whole.{laid}
+use Rattle.checking.proofs.Parity.{parity_inside}
+use Rattle.checking.proofs.Zeros.{zeros_tell, no_zeros_tell}
+use Rattle.checking.proofs.Checked.{blank_checks, says_checks}
+use Rattle.checking.proofs.checks.check.Goals as goal
+
+good : (c : goal.In-Good) → let a = c.args in
+    Numbers a.m a.k a.b (length a.stripe.now) c.in-Good.column
+good c = stripe_good _ _ _ _ c.judge_stripe-judged.result c.judge_stripe-judged.ensures c.in-Good.is
+
+-- so the tests pass
+passed : (c : goal.In-Good) → let a = c.args in
+    Gives (stripe_rules a.m a.k a.b (length a.stripe.now)) pass
+passed c = let a = c.args in stripe_passed a.m a.k a.b (length a.stripe.now) (good c).shape (good c).stripe
+
+pub returns-in_default : goal.returns-in_default
+returns-in_default c =
+    let a = c.args in
+    record { told = told_refused (stripe_rules a.m a.k a.b (length a.stripe.now)) [] c.judge_stripe-judged.result c.judge_stripe-judged.ensures.told c.in_default.is c.refusal.ensures; counted = λ e. absurd (passes_not _ (sym e)) }
+
+pub overflow_mul-k : goal.overflow_mul-k
+overflow_mul-k c = let n = good c in omega (arith, (parity_inside n.shape n.column n.stripe).1)
+
+pub is_blank-requires : goal.is_blank-requires
+is_blank-requires c = let n = good c in (parity_inside n.shape n.column n.stripe).0
+
+-- TURN: z is the place In-Good
+pub returns-then-is_blank : goal.returns-then-is_blank
+returns-then-is_blank c =
+    let a = c.args in
+    blank_checks a.m a.k a.b a.stripe.now (passed c) (zeros_tell a.m a.k a.b a.stripe.now _ c.is_blank.ensures c.if-is_blank.true)
+
+-- TURN: c.before.before is the place In-Good
+pub count_broken-requires : goal.count_broken-requires
+count_broken-requires c = let n = good c in laid n.shape n.column n.stripe
+
+-- TURN: z is the place In-Good
+-- TURN: z is the place In-Good
+-- TURN: z is the place In-Good
+pub returns : goal.returns
+returns c =
+    let a = c.args in
+    let r = c.count_broken.ensures in
+    says_checks a.m a.k a.b a.stripe.now (passed c) (no_zeros_tell a.m a.k a.b a.stripe.now _ c.is_blank.ensures (good c).shape (good c).stripe c.if-is_blank.false) c.count_broken.result r.0 r.1 c.told.result c.told.ensures

@@ -1,0 +1,53 @@
+-- `encoding::put_all` meets its contract: the blocks, the small ones, and then the lanes that are left. The first eight of eight places are all of them.
+use mathlib.Core.Path.{◌∙◌, sym, subst}
+use mathlib.Core.Logic.{⊎_elim}
+use mathlib.Core.List.{List}
+use Prim.Native.Nat.{ℕ, ◌≤◌}
+use lib.Seq.{take_all}
+use Rattle.encoding.specs.Sums.{Reads, Summed}
+use Rattle.encoding.proofs.Values.{reads_part, summed_next}
+use native.Mathlib.Omega.{arith}
+use Rattle.encoding.proofs.put_all.Goals as goal
+
+-- what the blocks left, by either arm
+blocks : (c : goal.Joined-at-eq8) → (c.if-at-eq8.x ≤ c.args.b)
+    × Summed c.args.s.now c.if-at-eq8.s c.args.at.now c.args.seed c.args.to 0 c.if-at-eq8.x
+blocks c =
+    let a = c.args in
+    let s = a.s.now in
+    ⊎_elim
+    (λ w. rw w.6 (rw w.7 (
+      w.3.ensures.0,
+      subst (λ (x : List ℕ). Summed s w.3.last.0 x a.seed a.to 0 w.3.result) (take_all 8 a.at.now (omega (arith, w.0.taken))) w.3.ensures.1,
+    )))
+    (λ w. rw w.5 (rw w.6 w.2.ensures))
+    c.if-at-eq8.branch
+
+pub put_blocks-x-requires : goal.put_blocks-x-requires
+put_blocks-x-requires c =
+    let a = c.args in
+    subst (λ (x : List ℕ). Reads x a.s.now a.b a.seed a.to) (sym (take_all 8 a.at.now (omega arith))) c.requires
+
+-- TURN: c.before is the place Joined-at-eq8
+pub put_small-j-requires : goal.put_small-j-requires
+put_small-j-requires c =
+    let q = blocks c in
+    (q.0, reads_part c.requires (omega arith) q.1.size)
+
+-- TURN: c.before.before.before.before.before is the place Joined-at-eq8
+pub put_rest-requires : goal.put_rest-requires
+put_rest-requires c =
+    let r = c.put_small-j.ensures in
+    (r.1, r.2, reads_part c.requires (omega arith) (r.3.size ∙ (blocks c).1.size))
+
+-- TURN: c.before.before.before.before.before.before.before.before is the place Joined-at-eq8
+pub shape_of-s : goal.shape_of-s
+shape_of-s c = c.put_rest.ensures.size ∙ c.put_small-j.ensures.3.size ∙ (blocks c).1.size
+
+-- TURN: c.before.before.before.before.before.before.before.before is the place Joined-at-eq8
+pub returns : goal.returns
+returns c =
+    let p = c.requires in
+    let q = blocks c in
+    let r = c.put_small-j.ensures in
+    summed_next p (omega arith) r.1 (omega arith) (summed_next p (omega arith) r.0 r.1 q.1 r.3) c.put_rest.ensures

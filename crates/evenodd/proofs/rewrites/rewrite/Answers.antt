@@ -1,0 +1,71 @@
+-- `evenodd::rewrites::rewrite` meets its contract: a law of rewrite for each way out, from what the tests on the way there said.
+use mathlib.Core.Path.{sym, ◌∙◌}
+use mathlib.Core.Bool.{true≢false}
+use lib.ListN.{length}
+use native.Mathlib.Omega.{arith}
+use borrow.Author.Tests.{not-true, not-false}
+use Rattle.parity.specs.Stripe.{Stripe}
+use Rattle.inputs.specs.Rules.{stripe_rules}
+use Rattle.inputs.proofs.Tests.{told_refused, Numbers, stripe_good}
+use Rattle.evenodd.specs.Rewrites.{column_rules}
+use Rattle.lines.proofs.Whole.{laid}
+use Rattle.evenodd.proofs.Rewritten.{rewrite_refused, rewrite_outside, rewrite_none, rewrite_done}
+use Rattle.evenodd.proofs.rewrites.rewrite.Goals as goal
+
+good : (c : goal.In-Good) → let a = c.args in
+    Numbers a.m a.k a.b (length a.stripe.now) c.in-Good.length
+good c = stripe_good _ _ _ _ c.judge_stripe-judged.result c.judge_stripe-judged.ensures c.in-Good.is
+
+-- a stripe, of the length that was tested
+stripe : (c : goal.In-Good) → let a = c.args in Stripe a.m a.k a.b a.stripe.now
+stripe c = record { whole = (good c).stripe; bytes = λ x. omega (arith, c.type_inv.stripe x) }
+
+pub returns-in_default : goal.returns-in_default
+returns-in_default c =
+    let a = c.args in
+    rewrite_refused a.m a.k a.b a.column (told_refused (stripe_rules a.m a.k a.b (length a.stripe.now)) (column_rules a.m a.k a.b a.column a.stripe.now)
+    c.judge_stripe-judged.result c.judge_stripe-judged.ensures.told c.in_default.is c.refusal.ensures)
+
+pub overflow_add-k : goal.overflow_add-k
+overflow_add-k c = omega (arith, (good c).shape.few, (good c).shape.value.most)
+
+-- TURN: z is the place In-Good
+-- TURN: z is the place In-Good
+pub returns-then-k-column : goal.returns-then-k-column
+returns-then-k-column c =
+    let a = c.args in
+    rewrite_outside a.m a.k a.b a.column (good c).shape a.stripe.now (stripe c) c.if-k-column.true
+
+-- TURN: c.before.before is the place In-Good-2
+pub fits_but-fits-requires : goal.fits_but-fits-requires
+fits_but-fits-requires c = let n = good c in laid n.shape n.column n.stripe
+
+-- TURN: z.before.before.before.before.before.args not found
+-- TURN: z is the place In-Good-2
+-- TURN: z is the place In-Good-2
+-- TURN: c.before.before.before.if1.false not found
+pub returns-then-not-fits : goal.returns-then-not-fits
+returns-then-not-fits c =
+    let a = c.before.before.before.before.before.args in
+    let r = c.fits_but-fits in
+    rewrite_none a.m a.k a.b a.column (good c).shape a.stripe.now (stripe c) (omega (arith, c.if1.false)) (λ f. true≢false (sym (r.ensures.1 f) ∙ not-true r.result c.if-not-fits.true-raw))
+
+-- TURN: c.before.before.before.before.before is the place In-Good-2
+-- TURN: c.before.before.before.before.if1.false not found
+pub rewrite-requires : goal.rewrite-requires
+rewrite-requires c =
+    let n = good c in
+    (laid n.shape n.column n.stripe, omega (arith, c.if1.false))
+
+pub shape_of-stripe : goal.shape_of-stripe
+shape_of-stripe c = c.rewrite.ensures.size
+
+-- TURN: z.before.before.before.before.before.args not found
+-- TURN: z is the place In-Good-2
+-- TURN: z is the place In-Good-2
+-- TURN: c.before.before.before.before.before.before.before.if1.false not found
+pub returns : goal.returns
+returns c =
+    let a = c.before.before.before.before.before.args in
+    let r = c.fits_but-fits in
+    rewrite_done a.m a.k a.b a.column (good c).shape a.stripe.now (stripe c) (omega (arith, c.if1.false)) (r.ensures.0 (not-false r.result c.if-not-fits.false-raw)) _ c.rewrite.ensures.becomes

@@ -1,0 +1,51 @@
+-- `image::reading::read` meets its contract: what the contents say is carried on, and the bodies are copied where the stripe has the length.
+use mathlib.Core.Path.{refl}
+use Prim.Native.Nat.{◌+◌}
+use Rattle.parity.specs.Shape.{column_length, stripe_length}
+use Rattle.inputs.proofs.Shape.{column_most, places_most, parts_most}
+use Rattle.image.proofs.Formed.{formed_bodies}
+use Rattle.image.proofs.Filling.{Good, good_contents, good_truth, read_refused, read_length, read_good}
+use native.Mathlib.Omega.{arith}
+use Rattle.image.proofs.reading.read.Goals as goal
+
+-- what is known where the contents say a shape
+good : (c : goal.In-Shape) → let n = c.answer-1.given.0 in
+    Good c.args.image.now n.0 n.1.0 n.1.1.0 c.contents-found.result.map.places
+good c = good_contents _ c.contents-found.result c.contents-found.ensures c.in-Shape.is
+
+pub returns-in_default : goal.returns-in_default
+returns-in_default c = read_refused _ _ _ c.contents-found.ensures c.in_default.is
+
+pub overflow_add-columns : goal.overflow_add-columns
+overflow_add-columns c = omega (arith, places_most (good c).shape)
+
+pub overflow_sub-column : goal.overflow_sub-column
+overflow_sub-column c = let p = (good c).shape.value.prime.big in omega arith
+
+pub overflow_mul-column : goal.overflow_mul-column
+unfolding column_length
+overflow_mul-column c = omega (arith, column_most (good c).shape)
+
+pub overflow_mul-columns : goal.overflow_mul-columns
+unfolding column_length
+overflow_mul-columns c =
+    let g = good c in let a = c.answer-1.given.0 in omega (arith, parts_most g.shape refl (a.1.0 + 2) (places_most g.shape))
+
+-- TURN: c.before.before is the place In-Shape
+pub returns-then-stripe-columns : goal.returns-then-stripe-columns
+unfolding column_length stripe_length
+returns-then-stripe-columns c = read_length _ _ _ (good c) c.if-stripe-columns.true c.refused.ensures
+
+-- TURN: one.before is the place In-Shape
+pub copy_bodies-requires : goal.copy_bodies-requires
+unfolding column_length
+copy_bodies-requires c =
+    let g = good c in
+    (formed_bodies g.shape _ _ g.formed, omega (arith, c.if-stripe-columns.false))
+
+-- TURN: one.before is the place In-Shape
+pub returns : goal.returns
+unfolding column_length stripe_length
+returns c =
+    read_good _ _ _ (good c) c.in-Shape.is c.if-stripe-columns.false c.copy_bodies.ensures
+    (good_truth _ c.contents-found.result c.contents-found.ensures c.in-Shape.is)

@@ -1,0 +1,42 @@
+-- `image_walker::steps::find_from` meets its contract. The loop's invariant: no column from the place on and below t is present, and `start` is where the
+-- body of column t would begin.
+use mathlib.Core.Path.{◌≡◌, refl, sym, ◌∙◌}
+use mathlib.Core.Logic.{inl, inr}
+use borrow.Author.Rules.{rules}
+use native.Mathlib.Omega.{arith}
+use Rattle.image_walker.proofs.Finding.{before_none, before_present, before_absent, before_most, absent_none, absent_more}
+use Rattle.image_walker.proofs.steps.find_from.Goals as goal
+
+pub loop-t-init : goal.loop-t-init
+loop-t-init c = (search rules, before_none _ _ _, absent_none _ _)
+
+pub returns-then-place-t : goal.returns-then-place-t
+returns-then-place-t c =
+    record {
+      order = c.if-place-t.true;
+      inside = c.loop-t-test.true;
+      there = sym c.is_present.ensures ∙ c.if-is_present.true;
+      before = c.loop-t.invariant.2;
+      begins = c.loop-t.invariant.1;
+      size = refl;
+      moved = refl;
+    }
+
+pub overflow_add-start-then-is_present : goal.overflow_add-start-then-is_present
+overflow_add-start-then-is_present c =
+    let (columns, column) = c.requires in
+    omega (arith, before_most _ _ _ _ c.loop-t.invariant.1 (omega (arith, c.loop-t.invariant.0)) columns column)
+
+pub loop-t-preserved : goal.loop-t-preserved
+loop-t-preserved c =
+    let e = sym c.is_present.ensures in
+    elim c.if-is_present.branch [
+      | inl (one, two, more) ↦ (search rules, more ∙ before_present _ _ _ _ c.loop-t.invariant.1 (e ∙ one.taken), absent_more _ _ _ c.loop-t.invariant.2 (λ p. absurd (omega (arith, two.left))))
+      | inr (one, same) ↦ let absent = e ∙ one.left in (search rules, same ∙ before_absent _ _ _ _ c.loop-t.invariant.1 absent, absent_more _ _ _ c.loop-t.invariant.2 (λ _. absent))
+    ]
+
+-- TURN: at is the place At-loop-t
+pub returns : goal.returns
+returns c =
+    let e : c.loop-t.t ≡ c.args.columns = omega arith in
+    (rw e c c.loop-t.invariant.2, refl)

@@ -1,0 +1,68 @@
+-- `image_writer::pieces::put_entries` meets its contract. The loop's invariant: the entries of the columns below t are written, and the next body begins after theirs.
+use mathlib.Core.Path.{◌≡◌, sym, ap, ap₂, ◌∙◌}
+use mathlib.Core.Logic.{⊎_elim}
+use mathlib.Core.Bool.{Bool, true, false}
+use mathlib.Core.List.{List}
+use Prim.Native.Nat.{ℕ, ◌+◌, ◌*◌}
+use native.Mathlib.Numerals.{add-one}
+use native.Mathlib.Nat.{add-zero}
+use native.Mathlib.Omega.{arith}
+use Rattle.parity.specs.Presence.{present}
+use Rattle.text.specs.Text.{Wrote}
+use Rattle.text.proofs.Writing.{wrote_none, wrote_then, wrote_same}
+use Rattle.image.specs.Format.{joined, present_below}
+use Rattle.image.proofs.Laid.{bodies_none}
+use Rattle.image_writer.specs.Pieces.{entry_of}
+use Rattle.image_writer.proofs.Joining.{entries_length, body_fits, begins_next}
+use borrow.Author.Rules.{rules}
+use Rattle.image_writer.proofs.pieces.put_entries.Goals as goal
+
+abbrev begins : List Bool → ℕ → ℕ → ℕ → ℕ
+begins map column bodies t = bodies + present_below t map * column
+
+abbrev entries : List Bool → ℕ → ℕ → ℕ → List ℕ
+entries map column bodies n = joined n (λ t. entry_of t (present map t) (begins map column bodies t))
+
+-- one entry more
+entry_next : (map : List Bool) (column bodies t : ℕ) {x y z : List ℕ} {at p r : ℕ} → Wrote x y at p (entries map column bodies t) → Wrote y z p r (entry_of t (present map t) (begins map column bodies t))
+    → Wrote x z at r (entries map column bodies (t + 1))
+unfolding joined
+entry_next map column bodies t w e = rw add-one (wrote_then w e)
+
+pub loop-t-init : goal.loop-t-init
+unfolding joined
+loop-t-init c = let a = c.args in (search rules, wrote_none _ _, omega (arith, bodies_none a.map.places a.column))
+
+pub put_entry-next-requires : goal.put_entry-next-requires
+put_entry-next-requires c =
+    let a = c.args in
+    let w = c.loop-t.invariant.1 in
+    omega (arith, w.ends, w.size, entries_length (present a.map.places) (begins a.map.places a.column a.bodies) c.loop-t.t, c.requires.0)
+
+pub overflow_add-body : goal.overflow_add-body
+overflow_add-body c =
+    let a = c.args in
+    let x = body_fits a.map.places a.column c.loop-t.t a.columns c.loop-t-test.true (sym c.is_present-there.ensures ∙ c.if-there.true) in
+    omega (arith, x, c.loop-t.invariant.2, c.requires.1)
+
+pub loop-t-preserved : goal.loop-t-preserved
+loop-t-preserved c =
+    let a = c.args in
+    let there = c.is_present-there.ensures in
+    let next = begins_next a.map.places a.column a.bodies c.loop-t.t in (
+      search rules,
+      entry_next _ _ _ _ c.loop-t.invariant.1 (wrote_same c.put_entry-next.ensures (ap₂ (entry_of c.loop-t.t) there c.loop-t.invariant.2)),
+      ⊎_elim
+          (λ w. w.1 ∙ ap (λ n. n + a.column) c.loop-t.invariant.2 ∙ next true (sym there ∙ w.0.taken))
+          (λ w. w.1 ∙ c.loop-t.invariant.2 ∙ sym (add-zero _) ∙ next false (sym there ∙ w.0.left))
+          c.if-there.branch,
+    )
+
+pub shape_of-image : goal.shape_of-image
+shape_of-image c = c.loop-t.invariant.1.size
+
+-- TURN: at is the place At-loop-t
+pub returns : goal.returns
+returns c =
+    let e : c.loop-t.t ≡ c.args.columns = omega arith in
+    rw e c c.loop-t.invariant.1

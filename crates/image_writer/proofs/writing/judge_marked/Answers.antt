@@ -1,0 +1,72 @@
+-- `image_writer::writing::judge_marked` meets its contract: the verdict on the stripe is passed on, or the map is tested. That 9 is read from the highest
+-- place is a law of true maps.
+use mathlib.Core.Path.{refl, sym, ◌∙◌}
+use mathlib.Core.Bool.{true≢false}
+use Prim.Native.Nat.{◌+◌}
+use native.Mathlib.Omega.{arith}
+use borrow.Author.Tests.{not-true, not-false}
+use Rattle.maps.specs.Truth.{TrueMap}
+use Rattle.maps.proofs.Truth.{from_highest}
+use Rattle.inputs.specs.Rules.{stripe_rules, map_rules}
+use Rattle.refusals.specs.Refusals.{Verdict, Gives}
+use Rattle.refusals.proofs.Rules.{gives_first, gives_next, gives_after}
+use Rattle.inputs.proofs.Shape.{places_most}
+use Rattle.inputs.proofs.Tests.{passed_on, told_passed, Numbers, stripe_good}
+use Rattle.image_writer.specs.Writes.{marked_rules}
+use Rattle.image_writer.proofs.writing.judge_marked.Goals as goal
+
+-- past the tests of the numbers and of the stripe's length
+good : (c : goal.In-Good) → let a = c.args in Numbers a.m a.k a.b a.length c.in-Good.column
+good c = stripe_good _ _ _ _ c.judge_stripe-judged.result c.judge_stripe-judged.ensures c.in-Good.is
+
+-- the map's rules give the verdict
+after : (c : goal.In-Good) {v : Verdict} → let a = c.args in Gives (map_rules a.k a.map) v → Gives (marked_rules a.m a.k a.b a.map a.length) v
+after c {v} =
+    let a = c.args in
+    gives_after (stripe_rules a.m a.k a.b a.length) (map_rules a.k a.map) v (told_passed (stripe_rules a.m a.k a.b a.length) c.judge_stripe-judged.result c.judge_stripe-judged.ensures.told c.in-Good.is)
+
+-- and the map is true
+truth : (c : goal.Else-not-is_true) → TrueMap c.args.map
+truth c = c.is_true.ensures.0 (not-false _ c.if-not-is_true.false-raw)
+
+pub returns-in_default : goal.returns-in_default
+returns-in_default c =
+    let a = c.args in
+    record {
+      told = passed_on (stripe_rules a.m a.k a.b a.length) (map_rules a.k a.map) c.judge_stripe-judged.result c.judge_stripe-judged.ensures.told c.in_default.is;
+      column = c.judge_stripe-judged.ensures.column;
+    }
+
+-- TURN: c.before.before is the place In-Good
+pub returns-then-not-is_true : goal.returns-then-not-is_true
+returns-then-not-is_true c = record {
+  told = after c (gives_first (λ h. true≢false (sym (c.is_true.ensures.1 h) ∙ not-true _ c.if-not-is_true.true-raw)));
+  column = tt;
+}
+
+-- TURN: c.before.before is the place In-Good
+pub overflow_add-k : goal.overflow_add-k
+overflow_add-k c = omega (arith, places_most (good c).shape)
+
+-- TURN: one.before.before is the place In-Good
+-- TURN: one is the place Else-not-is_true
+-- TURN: one is the place Else-not-is_true
+pub returns-then-reaches : goal.returns-then-reaches
+returns-then-reaches c =
+    let a = c.args in
+    record {
+      told = after c (gives_next (λ lies. lies (truth c)) (gives_first ((from_highest a.map (truth c) (a.k + 2)).1 (c.reaches.ensures.0 c.if-reaches.true))));
+      column = tt;
+    }
+
+-- TURN: told is the place In-Good
+-- TURN: told is the place In-Good
+-- TURN: one is the place Else-not-is_true
+-- TURN: one is the place Else-not-is_true
+pub returns : goal.returns
+returns c =
+    let a = c.args in
+    record {
+      c = rw c.in-Good.is (after c (gives_next (λ lies. lies (truth c)) (gives_next (λ p. true≢false (sym (c.reaches.ensures.1 ((from_highest a.map (truth c) (a.k + 2)).0 p)) ∙ c.if-reaches.false)) refl)));
+      column = c.judge_stripe-judged.ensures.column;
+    }

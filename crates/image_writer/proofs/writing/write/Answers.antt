@@ -1,0 +1,83 @@
+-- `image_writer::writing::write` meets its contract: the refusal is passed on, or the buffer is too short, or the pieces are written one after another.
+use mathlib.Core.Path.{◌≡◌}
+use Prim.Native.Nat.{◌+◌, ◌*◌, ◌≤◌}
+use native.Mathlib.Omega.{arith}
+use lib.ListN.{length}
+use Rattle.parity.specs.Shape.{column_length, stripe_length}
+use Rattle.parity.specs.Presence.{present}
+use Rattle.parity.proofs.Count.{count_most}
+use Rattle.inputs.proofs.Shape.{places_most, parts_most}
+use Rattle.text.proofs.Writing.{wrote_then}
+use Rattle.image.specs.Format.{bodies_at, present_below}
+use Rattle.image_writer.proofs.Joining.{entries_length}
+use Rattle.image_writer.proofs.Verdicts.{Marked, marked_good, counted, write_refused, write_short, write_good}
+use Rattle.image_writer.proofs.writing.write.Goals as goal
+
+-- past the judgement
+good : (c : goal.In-Good) → let a = c.args in Marked a.m a.k a.b a.map (length a.stripe.now) × (c.in-Good.column ≡ column_length a.m a.b)
+good c = marked_good _ _ _ _ _ c.judge_marked-judged.result c.judge_marked-judged.ensures c.in-Good.is
+
+-- as many columns are present as fit a stripe
+present-most : (c : goal.In-Good) → let a = c.args in a.map.present ≤ 129
+unfolding present_below
+present-most c =
+    let a = c.args in
+    let (g, _) = good c in
+    omega (arith, counted _ _ _ a.map _ g, count_most (a.k + 2) (present a.map.places), places_most g.shape)
+
+-- the image fits the buffer
+-- TURN: c.before.before is the place In-Good
+room : (c : goal.Else-image-bodies) → let a = c.args in bodies_at a.k + present_below (a.k + 2) a.map.places * c.in-Good.column ≤ length a.image.now
+room c = let (g, _) = good c in rw (counted _ _ _ c.args.map _ g) at c.if-image-bodies.false
+
+pub returns-in_default : goal.returns-in_default
+returns-in_default c =
+    write_refused _ _ _ _ _ _ c.judge_marked-judged.result c.judge_marked-judged.ensures c.in_default.is c.refusal.ensures
+
+pub overflow_add-columns : goal.overflow_add-columns
+overflow_add-columns c = omega (arith, places_most (good c).0.shape)
+
+pub overflow_mul-bodies : goal.overflow_mul-bodies
+overflow_mul-bodies c = omega (arith, places_most (good c).0.shape)
+
+pub overflow_add-bodies : goal.overflow_add-bodies
+overflow_add-bodies c = omega (arith, places_most (good c).0.shape)
+
+-- TURN: at is the place In-Good
+-- TURN: at is the place In-Good
+pub overflow_mul-map : goal.overflow_mul-map
+overflow_mul-map c = let (g, column) = good c in omega (arith, parts_most g.shape column c.args.map.present (present-most c))
+
+-- TURN: at is the place In-Good
+-- TURN: at is the place In-Good
+pub overflow_add-bodies-2 : goal.overflow_add-bodies-2
+overflow_add-bodies-2 c = let (g, column) = good c in omega (arith, places_most g.shape, parts_most g.shape column c.args.map.present (present-most c))
+
+-- TURN: c.before.before is the place In-Good
+pub returns-then-image-bodies : goal.returns-then-image-bodies
+returns-then-image-bodies c = let (g, column) = good c in write_short _ _ _ _ _ _ g column c.if-image-bodies.true
+
+-- TURN: c.before.before.before.before.before is the place Else-image-bodies
+pub put_entries-bodies_at-requires : goal.put_entries-bodies_at-requires
+put_entries-bodies_at-requires c =
+    let x = room c in
+    let w = c.put_numbers-entries_at.ensures in
+    (omega (arith, x, w.ends, w.size), omega (arith, x, w.size))
+
+-- TURN: one.before.before is the place In-Good
+-- TURN: one is the place Else-image-bodies
+pub put_bodies-end-requires : goal.put_bodies-end-requires
+unfolding stripe_length
+put_bodies-end-requires c =
+    let a = c.args in
+    let (g, column) = good c in
+    let first = c.put_numbers-entries_at.ensures in
+    let second = c.put_entries-bodies_at.ensures in
+    let most : (a.k + 2) * c.in-Good.column ≤ length a.stripe.now = rw column (omega (arith, g.stripe)) in
+    (omega (arith, room c, first.ends, first.size, second.ends, second.size, entries_length (present a.map.places) (λ t. bodies_at a.k + present_below t a.map.places * c.in-Good.column) (a.k + 2)), most)
+
+-- TURN: one.before.before is the place In-Good
+pub returns : goal.returns
+returns c =
+    let (g, column) = good c in
+    write_good _ _ _ _ _ _ g column _ _ c.if-image-bodies.false (wrote_then c.put_numbers-entries_at.ensures (wrote_then c.put_entries-bodies_at.ensures c.put_bodies-end.ensures))

@@ -1,0 +1,66 @@
+-- `inputs::lent::judge_gaps` meets its contract: the verdict on what is lent is passed on, or the count is asked. That 4 is read from the count is a law of
+-- true maps.
+use mathlib.Core.Path.{◌≡◌, refl}
+use mathlib.Core.List.{◌∷◌}
+use Prim.Native.Nat.{◌+◌, ◌≤◌}
+use native.Mathlib.Omega.{arith}
+use Rattle.parity.specs.Presence.{absences}
+use Rattle.maps.specs.Truth.{absent_by_count}
+use Rattle.inputs.specs.Rules.{too_many_absent, lent_rules}
+use Rattle.refusals.proofs.Rules.{gives_first, gives_next, gives_after}
+use Rattle.inputs.proofs.Shape.{places_most}
+use Rattle.maps.proofs.Truth.{absent_counted}
+use Rattle.inputs.proofs.Tests.{told_refused, Lent, lent_good}
+use Rattle.inputs.proofs.lent.judge_gaps.Goals as goal
+
+good : (c : goal.In-Good) → let a = c.args in
+    Lent a.m a.k a.b a.length a.map a.held c.in-Good.column
+good c = lent_good _ _ _ _ _ _ c.judge_lent-judged.result c.judge_lent-judged.ensures c.in-Good.is
+
+-- how many columns are absent, by the count
+absent : (c : goal.In-Good) → let a = c.args in
+    (a.map.present ≤ a.k + 2) × (absences a.k a.map.places ≡ absent_by_count a.k a.map)
+absent c = absent_counted _ (good c).truth _ (good c).clear
+
+pub returns-in_default : goal.returns-in_default
+returns-in_default c =
+    let a = c.args in
+    record {
+      told = told_refused (lent_rules a.m a.k a.b a.map a.length a.held) (too_many_absent a.k a.map ∷ [])
+          c.judge_lent-judged.result c.judge_lent-judged.ensures.told c.in_default.is c.refusal.ensures;
+      good = tt;
+    }
+
+pub overflow_add-columns : goal.overflow_add-columns
+overflow_add-columns c = omega (arith, places_most (good c).numbers.shape)
+
+-- TURN: c.before is the place In-Good
+-- TURN: c.before is the place In-Good
+pub overflow_sub-absent : goal.overflow_sub-absent
+overflow_sub-absent c = omega (arith, (absent c).0, places_most (good c).numbers.shape)
+
+-- TURN: p.before is the place In-Good
+-- TURN: p.before is the place In-Good
+pub returns-then-absent-gt2 : goal.returns-then-absent-gt2
+returns-then-absent-gt2 c =
+    let a = c.args in
+    let e = (absent c).1 in
+    record {
+      told = gives_after (lent_rules a.m a.k a.b a.map a.length a.held) (too_many_absent a.k a.map ∷ []) _
+          (good c).tests (gives_first (omega (arith, c.if-absent-gt2.true)));
+      good = tt;
+    }
+
+-- TURN: p.before is the place In-Good
+-- TURN: p.before is the place In-Good
+-- TURN: p.before is the place In-Good
+-- TURN: p.before is the place In-Good
+pub returns : goal.returns
+returns c =
+    let a = c.args in
+    let e = (absent c).1 in
+    record {
+      told = gives_after (lent_rules a.m a.k a.b a.map a.length a.held) (too_many_absent a.k a.map ∷ []) _
+          (good c).tests (gives_next (λ h. omega (arith, c.if-absent-gt2.false)) refl);
+      good = ((good c).numbers.column, c.gaps-gaps.ensures.some (places_most (good c).numbers.shape));
+    }

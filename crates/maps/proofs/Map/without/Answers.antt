@@ -1,0 +1,31 @@
+-- `maps::Map::without` meets its contract: where the place was present, one less is, and where it was the highest, the next is found.
+use native.Mathlib.Omega.{arith}
+use borrow.Author.Tests.{not-true, not-false}
+use Rattle.parity.specs.Presence.{present}
+use Rattle.maps.proofs.Truth.{counted_cleared, highest_left}
+use Rattle.maps.proofs.Presence.{marked_already, marked_cleared}
+use Rattle.maps.proofs.Map.without.Goals as goal
+
+pub returns-then-not-self-place : goal.returns-then-not-self-place
+unfolding present
+returns-then-not-self-place c = marked_already _ _ _ c.requires.0 (not-true _ c.if-not-self-place.true-raw)
+
+pub overflow_sub-self : goal.overflow_sub-self
+unfolding present
+overflow_sub-self c =
+    let (h, l) = c.requires in
+    let one = counted_cleared c.args.t1.places c.args.place (let w = h.whole in omega arith) (not-false _ c.if-not-self-place.false-raw) l in
+    omega (arith, h.counted)
+
+pub returns-then-self-place : goal.returns-then-self-place
+unfolding present
+returns-then-self-place c =
+    let (h, l) = c.requires in
+    marked_cleared _ _ h l (not-false _ c.if-not-self-place.false-raw) _ c.find_highest.ensures
+
+pub returns-else-self-place : goal.returns-else-self-place
+unfolding present
+returns-else-self-place c =
+    let (h, l) = c.requires in
+    let there = not-false _ c.if-not-self-place.false-raw in
+    marked_cleared _ _ h l there _ (highest_left _ _ (let w = h.whole in omega arith) there _ h.named c.if-self-place.false)

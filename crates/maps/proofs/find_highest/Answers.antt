@@ -1,0 +1,19 @@
+-- `maps::find_highest` meets its contract: the top of all places tells the highest.
+use mathlib.Core.Path.{◌≡◌}
+use lib.ListN.{length}
+use native.Mathlib.Omega.{arith}
+use Rattle.maps.proofs.Truth.{none_topped, topped_highest}
+use Rattle.maps.proofs.find_highest.Goals as goal
+
+-- the array has 129 places
+-- TURN: c.well-formed.0.1.0.1 not found
+whole : (c : goal.Start) → length c.args.places ≡ 129
+whole c = c.well-formed.0.1.0.1
+
+-- TURN: c.before.before is the place Start
+pub returns-then-top-eq0 : goal.returns-then-top-eq0
+returns-then-top-eq0 c = none_topped _ (whole c) _ c.find_top-top.ensures c.if-top-eq0.true
+
+-- TURN: c.before.before is the place Start
+pub returns : goal.returns
+returns c = topped_highest _ (whole c) _ c.find_top-top.ensures (omega arith)

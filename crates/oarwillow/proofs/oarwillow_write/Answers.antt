@@ -1,0 +1,30 @@
+-- `oarwillow::oarwillow_write` meets its contract: the answer is the writer's, and each arm returns its number and writes its length.
+use mathlib.Core.Path.{refl}
+use Rattle.image_writer.specs.declared.writing.Written.TheVariants.{Length, Refused}
+use Rattle.oarwillow.proofs.oarwillow_write.Goals as goal
+
+-- TURN: asked.before.before.of_bytes_lem.ensures not found
+-- TURN: at is the place In-Length-2
+pub returns-in-Length : goal.returns-in-Length
+returns-in-Length c =
+    record {
+      map = _;
+      marked = c.of_bytes_lem.ensures;
+      answer = Length _;
+      meets = rw c.in-Length.is c c.write.ensures;
+      length = refl;
+      number = refl;
+    }
+
+-- TURN: asked.before.before.of_bytes_lem.ensures not found
+-- TURN: at is the place In-Refused-2
+pub returns-in-Refused : goal.returns-in-Refused
+returns-in-Refused c =
+    record {
+      map = _;
+      marked = c.of_bytes_lem.ensures;
+      answer = Refused _;
+      meets = rw c.in-Refused.is c c.write.ensures;
+      length = refl;
+      number = c.number.ensures;
+    }

@@ -1,0 +1,54 @@
+-- `restoring::add_total` meets its contract: the cells are those of a row whose columns are cells.
+use mathlib.Core.Path.{ap, ◌∙◌}
+use Prim.Native.Nat.{ℕ, ◌+◌}
+use lib.ListN.{length, get_or}
+use Rattle.parity.specs.Xor.{◌⊕◌}
+use Rattle.parity.specs.Stripe.{lane}
+use Rattle.parity.proofs.Xor.{zero_⊕}
+use Rattle.cells.proofs.Puts.{put_same}
+use Rattle.lines.specs.Lines.{span}
+use Rattle.lines.specs.Places.{without}
+use Rattle.lines.proofs.Places.{total_none, total_part, within_part, without_span}
+use Rattle.lines.proofs.Whole.{one_row}
+use native.Mathlib.Omega.{arith}
+use Rattle.restoring.proofs.add_total.Goals as goal
+
+pub add_places-n-requires : goal.add_places-n-requires
+add_places-n-requires c =
+    let p = c.requires in
+    (omega (arith, p.group, p.order), one_row p.filled p.short, record { slant = omega arith; inside = omega arith; order = p.order; within = omega arith; most = p.most; columns = omega arith })
+
+pub slice_bounds-fill_places-count : goal.slice_bounds-fill_places-count
+slice_bounds-fill_places-count c = omega (arith, c.add_places-n.ensures.most, c.add_places-n.ensures.size, c.requires.group)
+
+-- TURN: c.before.before.before.add-places.ensures.most not found
+-- TURN: c.before.before.before.add-places.ensures.size not found
+-- TURN: c.before.before.before.before.before.before.before.requires.group not found
+pub slice_bounds-fill_places-end : goal.slice_bounds-fill_places-end
+slice_bounds-fill_places-end c = omega (arith, c.add-places.ensures.most, c.add-places.ensures.size, c.before.before.before.before.before.before.before.requires.group)
+
+-- TURN: c.before.before.before.before.before.before.before.before not found
+-- TURN: c.before.before.before.before.add-places not found
+pub fill_places-requires : goal.fill_places-requires
+fill_places-requires c =
+    let z = c.before.before.before.before.before.before.before.before in
+    let a = z.args in
+    let y = c.add-places in
+    record {
+      room = z.requires.room;
+      within = within_part y.new.0 y.result (omega (arith, y.ensures.most, y.ensures.size, z.requires.group)) a.b (length a.s.now) (y.ensures.within (length a.s.now) z.requires.cells (λ x h. absurd (omega arith)));
+    }
+
+-- TURN: c.before.before.before.before.before.before.before.before.before.before.before not found
+-- TURN: c.before.before.before.before.before.before.before.add-places not found
+pub returns : goal.returns
+returns c =
+    let z = c.before.before.before.before.before.before.before.before.before.before.before in
+    let a = z.args in
+    let s = a.s.now in
+    let y = c.add-places in
+    put_same c.fill_places.ensures (λ l h.
+    ap (λ (v : ℕ). get_or a.w.now (a.seed + l) 0 ⊕ v)
+    (total_part y.new.0 y.result (omega (arith, y.ensures.most, y.ensures.size, z.requires.group)) s l ∙ y.ensures.sums s l
+    ∙ ap (λ (v : ℕ). v ⊕ span 2 (without 256 256 (lane 2 a.b s l)) 0 0 a.x a.y) (total_none _ s l) ∙ zero_⊕ (span 2 (without 256 256 (lane 2 a.b s l)) 0 0 a.x a.y)
+    ∙ without_span 2 256 256 (lane 2 a.b s l) 0 0 a.x a.y z.requires.order (λ t h₁ h₂. (λ q. absurd (omega (arith, z.requires.most)), λ q. absurd (omega (arith, z.requires.most))))))
