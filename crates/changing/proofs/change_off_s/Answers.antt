@@ -40,6 +40,6 @@ returns c =
     let a = c.args in
     let g = a.g in
     let r = c.exchange in
-    changed_off_s c.requires.0.sized g.k a.t a.i a.s.now r.new.0 a.cell.now c.requires.0.few c.requires.1 c.requires.2 a.own c.requires.3 c.requires.4
-    (subst (λ (n : ℕ). Exchanged a.s.now r.new.0 (a.t * g.column + a.i * g.b) (g.k * g.column + a.i * g.b) (g.k * g.column + g.column + a.own * g.b) n (λ l. get_or a.cell.now l 0))
+    changed_off_s c.requires.0.sized g.k a.t a.i a.s.now r.new.w a.cell.now c.requires.0.few c.requires.1 c.requires.2 a.own c.requires.3 c.requires.4
+    (subst (λ (n : ℕ). Exchanged a.s.now r.new.w (a.t * g.column + a.i * g.b) (g.k * g.column + a.i * g.b) (g.k * g.column + g.column + a.own * g.b) n (λ l. get_or a.cell.now l 0))
     c.requires.5 r.ensures)

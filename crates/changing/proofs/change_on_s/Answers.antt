@@ -64,8 +64,8 @@ returns c =
     let third = c.add_to_each in
     let copied = c.copy_into in
     let size = third.ensures.size ∙ second.ensures.size ∙ first.ensures.size in
-    changed_on_s c.requires.0.sized g.k a.t a.i a.s.now _ a.cell.now c.requires.0.few c.requires.1 c.requires.2 first.new.0 second.new.0 third.new.0
+    changed_on_s c.requires.0.sized g.k a.t a.i a.s.now _ a.cell.now c.requires.0.few c.requires.1 c.requires.2 first.new.w second.new.w third.new.w
     first.ensures second.ensures third.ensures.before
-    (put_count (put_part_lem third.new.0 copied.new.0 at (at + g.b - at) (λ l. get_or a.cell.now l 0) (omega (arith, size, row_within c.requires.0 c.args.i c.requires.2, column_within c.requires.0 c.args.t (omega (arith, c.requires.1)))) (ap length copied.ensures ∙ c.requires.4 ∙ omega arith)
+    (put_count (put_part_lem third.new.w copied.new.dst at (at + g.b - at) (λ l. get_or a.cell.now l 0) (omega (arith, size, row_within c.requires.0 c.args.i c.requires.2, column_within c.requires.0 c.args.t (omega (arith, c.requires.1)))) (ap length copied.ensures ∙ c.requires.4 ∙ omega arith)
     (λ l h. ap (λ (x : List ℕ). get_or x l 0) copied.ensures)) (omega arith))
     c.requires.3 third.ensures

@@ -28,26 +28,22 @@ put_blocks-x-requires c =
     let a = c.args in
     subst (λ (x : List ℕ). Reads x a.s.now a.b a.seed a.to) (sym (take_all 8 a.at.now (omega arith))) c.requires
 
--- TURN: c.before is the place Joined-at-eq8
 pub put_small-j-requires : goal.put_small-j-requires
 put_small-j-requires c =
-    let q = blocks c in
+    let q = blocks c.before in
     (q.0, reads_part c.requires (omega arith) q.1.size)
 
--- TURN: c.before.before.before.before.before is the place Joined-at-eq8
 pub put_rest-requires : goal.put_rest-requires
 put_rest-requires c =
     let r = c.put_small-j.ensures in
-    (r.1, r.2, reads_part c.requires (omega arith) (r.3.size ∙ (blocks c).1.size))
+    (r.1, r.2, reads_part c.requires (omega arith) (r.3.size ∙ (blocks c.before.before.before.before.before).1.size))
 
--- TURN: c.before.before.before.before.before.before.before.before is the place Joined-at-eq8
 pub shape_of-s : goal.shape_of-s
-shape_of-s c = c.put_rest.ensures.size ∙ c.put_small-j.ensures.3.size ∙ (blocks c).1.size
+shape_of-s c = c.put_rest.ensures.size ∙ c.put_small-j.ensures.3.size ∙ (blocks c.before.before.before.before.before.before.before.before).1.size
 
--- TURN: c.before.before.before.before.before.before.before.before is the place Joined-at-eq8
 pub returns : goal.returns
 returns c =
     let p = c.requires in
-    let q = blocks c in
+    let q = blocks c.before.before.before.before.before.before.before.before in
     let r = c.put_small-j.ensures in
     summed_next p (omega arith) r.1 (omega arith) (summed_next p (omega arith) r.0 r.1 q.1 r.3) c.put_rest.ensures

@@ -11,24 +11,18 @@ add_places-n-requires c =
     let p = c.requires in
     (omega (arith, p.group.few), p.group.laid.sized, follows_crosses (group_follows p.group p.slant p.inside))
 
--- TURN: c.before.before.before.before.before.before.before not found
--- TURN: c.before.before.before.before.add-places not found
 pub put_all-requires : goal.put_all-requires
 put_all-requires c =
-    let z = c.before.before.before.before.before.before.before in
-    let a = z.args in
-    let y = c.add-places in
-    let p : a.t1 * a.g.column ≤ a.g.k * a.g.column = mul-le-mul_right a.g.column z.requires.group.most in
+    let a = c.args in
+    let y = c.add_places-n in
+    let p : a.t1 * a.g.column ≤ a.g.k * a.g.column = mul-le-mul_right a.g.column c.requires.group.most in
     record {
-      within = within_part y.new.0 y.result (omega arith) a.g.b a.to (y.ensures.within a.to (omega (arith, z.requires.past)) (λ x h. absurd (omega arith)));
-      room = z.requires.room;
+      within = within_part y.new.at y.result (omega arith) a.g.b a.to (y.ensures.within a.to (omega (arith, c.requires.past)) (λ x h. absurd (omega arith)));
+      room = c.requires.room;
     }
 
--- TURN: c.before.before.before.before.before.before.before.before.before.before not found
--- TURN: c.before.before.before.before.before.before.before.add-places not found
 pub returns : goal.returns
 returns c =
-    let z = c.before.before.before.before.before.before.before.before.before.before in
-    let a = z.args in
-    let y = c.add-places in
-    cell_summed c.put_all.ensures (line_places a.slant a.i z.requires.group y.ensures (omega arith) a.s.now)
+    let a = c.args in
+    let y = c.add_places-n in
+    cell_summed c.put_all.ensures (line_places a.slant a.i c.requires.group y.ensures (omega arith) a.s.now)

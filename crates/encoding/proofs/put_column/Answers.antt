@@ -18,4 +18,4 @@ pub returns : goal.returns
 returns c =
     let t = c.add_turned_within in
     let u = c.add_turned_within-2 in
-    column_grown c.args.g c.requires.0.sized c.args.s.now t.new.0 u.new.0 c.args.t c.requires.1 t.ensures u.ensures
+    column_grown c.args.g c.requires.0.sized c.args.s.now t.new.w u.new.w c.args.t c.requires.1 t.ensures u.ensures

@@ -46,21 +46,18 @@ spread-requires c = (omega (arith, c.requires.whole), c.requires.sized)
 pub loop-t-init : goal.loop-t-init
 loop-t-init c = (search rules, search rules, grown_begin c.args.g 0 c.spread.new.w)
 
--- TURN: c.before.before.before is the place After-slice_known-3-1
 pub put_column-requires : goal.put_column-requires
-put_column-requires c = (laid_kept (c.loop-t.invariant.2.size ∙ (spread c).size) c.requires, omega arith)
+put_column-requires c = (laid_kept (c.loop-t.invariant.2.size ∙ (spread c.before.before.before).size) c.requires, omega arith)
 
 pub loop-t-preserved : goal.loop-t-preserved
 loop-t-preserved c = (search rules, search rules, grown_join (omega arith) (omega arith) c.loop-t.invariant.2 c.put_column.ensures)
 
--- TURN: c.before.before is the place After-slice_known-3-1
 pub shape_of-s : goal.shape_of-s
-shape_of-s c = c.loop-t.invariant.2.size ∙ (spread c).size
+shape_of-s c = c.loop-t.invariant.2.size ∙ (spread c.before.before).size
 
--- TURN: c.before.before is the place After-slice_known-3-1
 pub returns : goal.returns
 returns c =
     let a = c.args in
     let y = c.loop-t in
     let e : y.t ≡ a.g.k = omega arith in
-    subst (λ (n : ℕ). Grown true a.g 0 n a.s.now y.s 0 (a.g.m - 1)) e (grown_join (omega arith) y.invariant.1 (spread c) y.invariant.2)
+    subst (λ (n : ℕ). Grown true a.g 0 n a.s.now y.s 0 (a.g.m - 1)) e (grown_join (omega arith) y.invariant.1 (spread c.before.before) y.invariant.2)

@@ -23,7 +23,7 @@ loop-i-preserved c =
     let p = c.requires in
     let y = c.loop-i in
     let q = c.put_row in
-    (search rules, search rules, grown_next (eqb a.t0 0) a.g a.t0 a.t1 a.s.now y.s q.new.0 y.i (omega arith) p.order p.most y.invariant.2 q.ensures)
+    (search rules, search rules, grown_next (eqb a.t0 0) a.g a.t0 a.t1 a.s.now y.s q.new.s y.i (omega arith) p.order p.most y.invariant.2 q.ensures)
 
 pub shape_of-s : goal.shape_of-s
 shape_of-s c = c.loop-i.invariant.2.size

@@ -6,24 +6,18 @@ use Rattle.encoding.proofs.Values.{put_summed}
 use native.Mathlib.Omega.{arith}
 use Rattle.encoding.proofs.put_part.Goals as goal
 
--- TURN: c.before.before.before.before.before.requires.room.whole not found
 pub take-requires : goal.take-requires
-take-requires c = λ h. omega (arith, c.before.before.before.before.before.requires.room.whole (omega arith))
+take-requires c = λ h. omega (arith, c.requires.room.whole (omega arith))
 
--- TURN: c.before.before.before.before.before.before.before.before.before.before.requires not found
--- TURN: c.before.before.before.before.take.ensures.size not found
 pub add_cells-requires : goal.add_cells-requires
 add_cells-requires c =
-    let p = c.before.before.before.before.before.before.before.before.before.before.requires in
+    let p = c.requires in
     λ x h. omega (arith, p.within x h, p.room.inside, c.take.ensures.size)
 
--- TURN: c.before.before.before.before.before.before.before.before.before.before.before.before.before.before.before.before.before.before.args not found
--- TURN: c.before.before.before.before.before.before.before.add-cells not found
--- TURN: c.before.before.before.before.before.before.before.before.before.before.before.before.take.ensures not found
 pub returns : goal.returns
 returns c =
-    let a = c.before.before.before.before.before.before.before.before.before.before.before.before.before.before.before.before.before.before.args in
-    let y = c.add-cells in
+    let a = c.args in
+    let y = c.add_cells in
     let p = a.to + a.j in
-    put_summed (put_copied a.s.now a.acc.now y.new.0 c.copy_into.new.dst p (p + length y.new.0 - p) _ (omega arith) (omega arith)
+    put_summed (put_copied a.s.now a.acc.now y.new.acc c.copy_into.new.dst p (p + length y.new.acc - p) _ (omega arith) (omega arith)
     (put_then_added c.take.ensures y.ensures) c.copy_into.ensures)

@@ -7,9 +7,8 @@ use Rattle.encoding.proofs.put_rest.Goals as goal
 pub put_part-requires : goal.put_part-requires
 put_part-requires c = reads_part c.requires.2 (omega arith) refl
 
--- TURN: c.before.before.before.put_part_lem.ensures not found
 pub returns-then-j-b : goal.returns-then-j-b
-returns-then-j-b c = summed_end (omega arith) c.put_part_lem.ensures
+returns-then-j-b c = summed_end (omega arith) c.put_part.ensures
 
 pub returns-else-j-b : goal.returns-else-j-b
 returns-else-j-b c =

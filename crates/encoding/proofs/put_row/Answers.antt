@@ -56,5 +56,5 @@ returns c =
     let t = c.put_cell in
     let u = c.put_cell-2 in
     let fresh = eqb a.t0 0 in
-    grown_one fresh a.g p.0.laid.sized a.i p.1 a.t0 a.t1 p.0.order p.0.most a.s.now t.new.0 u.new.0 c.seed_place.ensures
+    grown_one fresh a.g p.0.laid.sized a.i p.1 a.t0 a.t1 p.0.order p.0.most a.s.now t.new.s u.new.s c.seed_place.ensures
     (c.seed_place-2.ensures ∙ ap (λ (v : ℕ). cond fresh v (a.g.k * a.g.column + a.i * a.g.b + a.g.column)) c.last_place.ensures) t.ensures u.ensures

@@ -13,12 +13,11 @@ loop-j-init c = (search rules, search rules, search rules, summed_none c.args.s.
 pub put_part-requires : goal.put_part-requires
 put_part-requires c = reads_part c.requires.1 (omega arith) c.loop-j.invariant.3.size
 
--- TURN: c.before.before.before.put_part_lem.ensures not found
 pub loop-j-preserved : goal.loop-j-preserved
 loop-j-preserved c =
     let y = c.loop-j in
     let e : y.j + length y.acc ≡ y.j + 16 = omega arith in
-    (search rules, search rules, search rules, summed_next c.requires.1 (omega arith) (omega arith) (omega arith) y.invariant.3 (summed_end e c.put_part_lem.ensures))
+    (search rules, search rules, search rules, summed_next c.requires.1 (omega arith) (omega arith) (omega arith) y.invariant.3 (summed_end e c.put_part.ensures))
 
 pub shape_of-s : goal.shape_of-s
 shape_of-s c = c.loop-j.invariant.3.size

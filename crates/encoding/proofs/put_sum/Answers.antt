@@ -43,7 +43,7 @@ loop-t-preserved c =
       e.ensures.1,
       q.ensures.size ∙ y.invariant.1,
       λ z. absurd (omega arith),
-      λ h. sum_group a.g.m a.g.k a.g.b a.s.now y.s q.new.0 last.result y.t e.result (omega (arith, last.ensures, ap (λ (v : ℕ). a.g.k * v) p.sized.column)) (omega arith) e.ensures.1 c.seed_place.ensures y.invariant.2 y.invariant.3 q.ensures,
+      λ h. sum_group a.g.m a.g.k a.g.b a.s.now y.s q.new.s last.result y.t e.result (omega (arith, last.ensures, ap (λ (v : ℕ). a.g.k * v) p.sized.column)) (omega arith) e.ensures.1 c.seed_place.ensures y.invariant.2 y.invariant.3 q.ensures,
     )
 
 pub shape_of-s : goal.shape_of-s

@@ -10,7 +10,7 @@ pub returns-then-slant-eq0 : goal.returns-then-slant-eq0
 returns-then-slant-eq0 c =
     let a = c.args in
     let r = c.add_row_places in
-    subst (λ (e : ℕ). LineListed a.g e a.i a.columns a.n r.result a.at.now r.new.0) (sym c.if-slant-eq0.true) r.ensures
+    subst (λ (e : ℕ). LineListed a.g e a.i a.columns a.n r.result a.at.now r.new.at) (sym c.if-slant-eq0.true) r.ensures
 
 pub add_diagonal_places-requires : goal.add_diagonal_places-requires
 add_diagonal_places-requires c =
@@ -23,4 +23,4 @@ returns c =
     let a = c.args in
     let r = c.add_diagonal_places in
     let one : 1 ≡ a.slant = omega (arith, c.requires.2.slant) in
-    subst (λ (e : ℕ). LineListed a.g e a.i a.columns a.n r.result a.at.now r.new.0) one r.ensures
+    subst (λ (e : ℕ). LineListed a.g e a.i a.columns a.n r.result a.at.now r.new.at) one r.ensures

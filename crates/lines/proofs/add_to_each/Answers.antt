@@ -45,7 +45,7 @@ loop-r-preserved c =
     let y = c.loop-r in
     let taken = c.loop-r-test.true in
     let q = c.add_within in
-    (search rules, each_more y.r a.b a.at a.from a.w.now y.w q.new.0 (apart a.at a.n a.b a.from y.r taken c.requires.2) y.invariant.1 q.ensures)
+    (search rules, each_more y.r a.b a.at a.from a.w.now y.w q.new.w (apart a.at a.n a.b a.from y.r taken c.requires.2) y.invariant.1 q.ensures)
 
 pub shape_of-w : goal.shape_of-w
 shape_of-w c = c.loop-r.invariant.1.size

@@ -47,11 +47,11 @@ returns-then-turn-gt1 c =
     let a = c.args in
     let u = c.add_within in
     let v = c.add_within-then-turn-gt1 in
-    turned_within c.requires.3 a.turn c.requires.2 a.at a.t a.w.now u.new.0 v.new.0 c.requires.1 u.ensures v.ensures
+    turned_within c.requires.3 a.turn c.requires.2 a.at a.t a.w.now u.new.w v.new.w c.requires.1 u.ensures v.ensures
 
 pub returns-else-turn-gt1 : goal.returns-else-turn-gt1
 returns-else-turn-gt1 c =
     let a = c.args in
     let u = c.add_within in
     let e : a.turn - 1 ≡ 0 = omega arith in
-    turned_within c.requires.3 a.turn c.requires.2 a.at a.t a.w.now u.new.0 u.new.0 c.requires.1 u.ensures (put_count (put_none u.new.0 a.at _) (sym (ap (λ (x : ℕ). x * a.g.b) e ∙ zero-mul a.g.b)))
+    turned_within c.requires.3 a.turn c.requires.2 a.at a.t a.w.now u.new.w u.new.w c.requires.1 u.ensures (put_count (put_none u.new.w a.at _) (sym (ap (λ (x : ℕ). x * a.g.b) e ∙ zero-mul a.g.b)))

@@ -10,10 +10,8 @@ use Rattle.maps.proofs.find_highest.Goals as goal
 whole : (c : goal.Start) → length c.args.places ≡ 129
 whole c = c.well-formed.0.1.0.1
 
--- TURN: c.before.before is the place Start
 pub returns-then-top-eq0 : goal.returns-then-top-eq0
-returns-then-top-eq0 c = none_topped _ (whole c) _ c.find_top-top.ensures c.if-top-eq0.true
+returns-then-top-eq0 c = none_topped _ (whole c.before.before) _ c.find_top-top.ensures c.if-top-eq0.true
 
--- TURN: c.before.before is the place Start
 pub returns : goal.returns
-returns c = topped_highest _ (whole c) _ c.find_top-top.ensures (omega arith)
+returns c = topped_highest _ (whole c.before.before) _ c.find_top-top.ensures (omega arith)

@@ -7,7 +7,6 @@ pub returns-in-Done : goal.returns-in-Done
 returns-in-Done c =
     record { answer = Done; meets = rw c.in-Done.is at c.change.ensures; number = refl }
 
--- TURN: at is the place In-Refused-2
 pub returns-in-Refused : goal.returns-in-Refused
 returns-in-Refused c =
-    record { answer = Refused _; meets = rw c.in-Refused.is c c.change.ensures; number = c.number.ensures }
+    record { answer = Refused _; meets = rw c.in-Refused.is c.before.before c.change.ensures; number = c.number.ensures }

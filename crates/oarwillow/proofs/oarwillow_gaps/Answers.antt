@@ -18,12 +18,11 @@ below map k n r (few, many) h = by_cases (dec_lt k 127)
     let all = rw e at (h.some (omega arith)) in
     record { some = λ m. (let z : k + 2 ≡ 129 = omega arith in rw z all); all = λ _. all })
 
--- TURN: columns.before.of_bytes_lem.ensures not found
 pub returns : goal.returns
 returns c =
     record {
       map = _;
-      marked = c.of_bytes_lem.ensures;
+      marked = c.of_bytes-map.ensures;
       answer = c.gaps-gaps.result;
       meets = below _ _ c.columns_of.result _ c.columns_of.ensures c.gaps-gaps.ensures;
       present = refl;

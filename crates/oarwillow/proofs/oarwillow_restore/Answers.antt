@@ -3,30 +3,26 @@ use mathlib.Core.Path.{refl}
 use Rattle.evenodd.specs.declared.restores.Restored.TheVariants.{Columns, Refused}
 use Rattle.oarwillow.proofs.oarwillow_restore.Goals as goal
 
--- TURN: asked.before.before.of_bytes_lem.ensures not found
--- TURN: at is the place In-Columns-2
 pub returns-in-Columns : goal.returns-in-Columns
 returns-in-Columns c =
     record {
       map = _;
-      marked = c.of_bytes_lem.ensures;
+      marked = c.of_bytes-map.ensures;
       answer = Columns _ _ _;
-      meets = rw c.in-Columns.is c c.restore.ensures;
+      meets = rw c.in-Columns.is c.before c.restore.ensures;
       count = refl;
       first = refl;
       second = refl;
       number = refl;
     }
 
--- TURN: asked.before.before.of_bytes_lem.ensures not found
--- TURN: at is the place In-Refused-2
 pub returns-in-Refused : goal.returns-in-Refused
 returns-in-Refused c =
     record {
       map = _;
-      marked = c.of_bytes_lem.ensures;
+      marked = c.of_bytes-map.ensures;
       answer = Refused _;
-      meets = rw c.in-Refused.is c c.restore.ensures;
+      meets = rw c.in-Refused.is c.before.before c.restore.ensures;
       count = refl;
       first = refl;
       second = refl;

@@ -3,28 +3,24 @@ use mathlib.Core.Path.{refl}
 use Rattle.image_writer.specs.declared.writing.Written.TheVariants.{Length, Refused}
 use Rattle.oarwillow.proofs.oarwillow_write.Goals as goal
 
--- TURN: asked.before.before.of_bytes_lem.ensures not found
--- TURN: at is the place In-Length-2
 pub returns-in-Length : goal.returns-in-Length
 returns-in-Length c =
     record {
       map = _;
-      marked = c.of_bytes_lem.ensures;
+      marked = c.of_bytes-map.ensures;
       answer = Length _;
-      meets = rw c.in-Length.is c c.write.ensures;
+      meets = rw c.in-Length.is c.before c.write.ensures;
       length = refl;
       number = refl;
     }
 
--- TURN: asked.before.before.of_bytes_lem.ensures not found
--- TURN: at is the place In-Refused-2
 pub returns-in-Refused : goal.returns-in-Refused
 returns-in-Refused c =
     record {
       map = _;
-      marked = c.of_bytes_lem.ensures;
+      marked = c.of_bytes-map.ensures;
       answer = Refused _;
-      meets = rw c.in-Refused.is c c.write.ensures;
+      meets = rw c.in-Refused.is c.before.before c.write.ensures;
       length = refl;
       number = c.number.ensures;
     }

@@ -21,34 +21,25 @@ add_places-n-requires c =
 pub slice_bounds-fill_places-count : goal.slice_bounds-fill_places-count
 slice_bounds-fill_places-count c = omega (arith, c.add_places-n.ensures.most, c.add_places-n.ensures.size, c.requires.group)
 
--- TURN: c.before.before.before.add-places.ensures.most not found
--- TURN: c.before.before.before.add-places.ensures.size not found
--- TURN: c.before.before.before.before.before.before.before.requires.group not found
 pub slice_bounds-fill_places-end : goal.slice_bounds-fill_places-end
-slice_bounds-fill_places-end c = omega (arith, c.add-places.ensures.most, c.add-places.ensures.size, c.before.before.before.before.before.before.before.requires.group)
+slice_bounds-fill_places-end c = omega (arith, c.add_places-n.ensures.most, c.add_places-n.ensures.size, c.requires.group)
 
--- TURN: c.before.before.before.before.before.before.before.before not found
--- TURN: c.before.before.before.before.add-places not found
 pub fill_places-requires : goal.fill_places-requires
 fill_places-requires c =
-    let z = c.before.before.before.before.before.before.before.before in
-    let a = z.args in
-    let y = c.add-places in
+    let a = c.args in
+    let y = c.add_places-n in
     record {
-      room = z.requires.room;
-      within = within_part y.new.0 y.result (omega (arith, y.ensures.most, y.ensures.size, z.requires.group)) a.b (length a.s.now) (y.ensures.within (length a.s.now) z.requires.cells (λ x h. absurd (omega arith)));
+      room = c.requires.room;
+      within = within_part y.new.at y.result (omega (arith, y.ensures.most, y.ensures.size, c.requires.group)) a.b (length a.s.now) (y.ensures.within (length a.s.now) c.requires.cells (λ x h. absurd (omega arith)));
     }
 
--- TURN: c.before.before.before.before.before.before.before.before.before.before.before not found
--- TURN: c.before.before.before.before.before.before.before.add-places not found
 pub returns : goal.returns
 returns c =
-    let z = c.before.before.before.before.before.before.before.before.before.before.before in
-    let a = z.args in
+    let a = c.args in
     let s = a.s.now in
-    let y = c.add-places in
+    let y = c.add_places-n in
     put_same c.fill_places.ensures (λ l h.
     ap (λ (v : ℕ). get_or a.w.now (a.seed + l) 0 ⊕ v)
-    (total_part y.new.0 y.result (omega (arith, y.ensures.most, y.ensures.size, z.requires.group)) s l ∙ y.ensures.sums s l
+    (total_part y.new.at y.result (omega (arith, y.ensures.most, y.ensures.size, c.requires.group)) s l ∙ y.ensures.sums s l
     ∙ ap (λ (v : ℕ). v ⊕ span 2 (without 256 256 (lane 2 a.b s l)) 0 0 a.x a.y) (total_none _ s l) ∙ zero_⊕ (span 2 (without 256 256 (lane 2 a.b s l)) 0 0 a.x a.y)
-    ∙ without_span 2 256 256 (lane 2 a.b s l) 0 0 a.x a.y z.requires.order (λ t h₁ h₂. (λ q. absurd (omega (arith, z.requires.most)), λ q. absurd (omega (arith, z.requires.most))))))
+    ∙ without_span 2 256 256 (lane 2 a.b s l) 0 0 a.x a.y c.requires.order (λ t h₁ h₂. (λ q. absurd (omega (arith, c.requires.most)), λ q. absurd (omega (arith, c.requires.most))))))

@@ -79,9 +79,9 @@ returns c =
     let r₁ : Bench a.g a.s.now (length w₁) = record { laid = c.requires.0.laid; bench = p.size ∙ c.requires.0.bench } in
     let q = last_put a.g a.s.now w₁ c.put_diagonal.new.w r₁ c.put_diagonal.ensures in
     let x = c.add_crossing in
-    let room : 2 * a.g.column ≤ length x.new.0 = omega (arith, c.requires.0.bench, p.size, q.size, x.ensures.size) in
-    let o = lent_lined x.new.0 c.sum_cells.new.w a.g.column (2 * a.g.column) (omega arith) room (omega (arith, f)) (lined_same c.sum_cells.ensures (λ r l hr hl.
+    let room : 2 * a.g.column ≤ length x.new.bench = omega (arith, c.requires.0.bench, p.size, q.size, x.ensures.size) in
+    let o = lent_lined x.new.bench c.sum_cells.new.w a.g.column (2 * a.g.column) (omega arith) room (omega (arith, f)) (lined_same c.sum_cells.ensures (λ r l hr hl.
     let e : a.g.column + ((a.g.m - 2) * a.g.b + l) ≡ a.g.column + (a.g.m - 2) * a.g.b + l = omega arith in
-    ap₂ ◌⊕◌ (lent_at x.new.0 c.sum_cells.new.w a.g.column (2 * a.g.column) (omega arith) room ((a.g.m - 2) * a.g.b + l) (omega (arith, last_cell c.requires.0.laid.sized 0)) ∙ ap (λ (n : ℕ). get_or x.new.0 n 0) e)
+    ap₂ ◌⊕◌ (lent_at x.new.bench c.sum_cells.new.w a.g.column (2 * a.g.column) (omega arith) room ((a.g.m - 2) * a.g.b + l) (omega (arith, last_cell c.requires.0.laid.sized 0)) ∙ ap (λ (n : ℕ). get_or x.new.bench n 0) e)
     (diagonal_left_lem a.g a.u (a.g.k + 1) a.s.now ((r + 0) % a.g.m) l c.all_but.ensures))) in
     data_d a.g a.s.now a.bench.now c.requires.0 a.u c.requires.1 p q x.ensures o c.add_turned_within.ensures

@@ -43,15 +43,13 @@ sum_two-requires c =
 pub loop-t-smaller : goal.loop-t-smaller
 loop-t-smaller c = omega (arith, c.group_end-e.ensures.0, c.group_end-e.ensures.1)
 
--- TURN: c.before.before.sum_two_lem.new.0 not found
--- TURN: c.before.before.sum_two_lem.ensures not found
 pub loop-t-preserved : goal.loop-t-preserved
 loop-t-preserved c =
     let a = c.args in
     let y = c.loop-t in
     let e = c.group_end-e in
     let p = put_cleared a.bench.now c.zero.new.acc ((a.g.m - 2) * a.g.b) a.g.column (omega (arith, last_cell c.requires.1.laid.sized 0)) (omega (arith, c.requires.1.bench)) c.zero.ensures in
-    (e.ensures.1, in_bench_next a.g a.s.now a.shift a.u a.v _ y.bench c.sum_two_lem.new.0 y.t e.result e.ensures.0 (p.size ∙ whole a.g a.s.now a.bench.now c.requires.1) y.invariant.1 c.sum_two_lem.ensures)
+    (e.ensures.1, in_bench_next a.g a.s.now a.shift a.u a.v _ y.bench c.sum_two.new.bench y.t e.result e.ensures.0 (p.size ∙ whole a.g a.s.now a.bench.now c.requires.1) y.invariant.1 c.sum_two.ensures)
 
 pub shape_of-bench : goal.shape_of-bench
 shape_of-bench c =

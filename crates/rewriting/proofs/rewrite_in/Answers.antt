@@ -8,12 +8,11 @@ use Rattle.rewriting.proofs.Rewrites.{laid_length, whole_band, bands_none, bands
 use native.Mathlib.Omega.{arith}
 use Rattle.rewriting.proofs.rewrite_in.Goals as goal
 
--- TURN: no goal nonzero-div-most
--- div_most : tie.Need-nonzero-div-most invariant-loop decreases-loop
--- div_most c = omega (arith, c.before.before.before.requires.3.sized.filled)
-
 pub overflow_sub-rows : goal.overflow_sub-rows
 overflow_sub-rows c = omega (arith, c.requires.3.sized.big)
+
+pub nonzero_div-most : goal.nonzero_div-most
+nonzero_div-most c = omega (arith, c.requires.3.sized.filled)
 
 pub loop-first-init : goal.loop-first-init
 loop-first-init c =

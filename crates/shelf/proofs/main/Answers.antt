@@ -5,6 +5,5 @@ use Rattle.shelf.proofs.main.Goals as goal
 pub tell-end-requires : goal.tell-end-requires
 tell-end-requires c = (c.read_input-taken.ensures, search rules)
 
--- TURN: c.before.before.before.before.tell.ensures.within not found
 pub slice_bounds-write_all-end : goal.slice_bounds-write_all-end
-slice_bounds-write_all-end c = c.tell.ensures.within
+slice_bounds-write_all-end c = c.tell-end.ensures.within

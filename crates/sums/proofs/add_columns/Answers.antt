@@ -31,7 +31,7 @@ loop-t-preserved c =
     let a = c.args in
     let y = c.loop-t in
     let f = c.add_column in
-    (omega arith, omega arith, swept_more a.g a.s.now a.slant a.shift a.columns a.half.now y.half f.new.0 a.columns.from y.t y.invariant.2 f.ensures)
+    (omega arith, omega arith, swept_more a.g a.s.now a.slant a.shift a.columns a.half.now y.half f.new.half a.columns.from y.t y.invariant.2 f.ensures)
 
 pub shape_of-half : goal.shape_of-half
 shape_of-half c = c.loop-t.invariant.2.size

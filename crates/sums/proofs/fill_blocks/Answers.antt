@@ -18,7 +18,7 @@ loop-j-preserved c =
     let p = c.fill_part in (
       search rules,
       search rules,
-      fill_more a.seed a.s.now a.at.now c.requires.room.later a.w.now y.w p.new.1.0 y.j 128 y.invariant.2 (put_count p.ensures y.invariant.1),
+      fill_more a.seed a.s.now a.at.now c.requires.room.later a.w.now y.w p.new.w y.j 128 y.invariant.2 (put_count p.ensures y.invariant.1),
     )
 
 pub shape_of-w : goal.shape_of-w

@@ -19,36 +19,24 @@ find_line-n-requires c =
 pub slice_bounds-fill_places-count : goal.slice_bounds-fill_places-count
 slice_bounds-fill_places-count c = omega (arith, c.find_line-n.ensures.most, c.find_line-n.ensures.size, c.requires.group, c.requires.order)
 
--- TURN: c.before.before.before.before.find-line.ensures.most not found
--- TURN: c.before.before.before.before.find-line.ensures.size not found
--- TURN: c.before.before.before.before.before.before.before.before.requires.group not found
--- TURN: c.before.before.before.before.before.before.before.before.requires.order not found
 pub slice_bounds-fill_places-end : goal.slice_bounds-fill_places-end
-slice_bounds-fill_places-end c = omega (arith, c.find-line.ensures.most, c.find-line.ensures.size, c.before.before.before.before.before.before.before.before.requires.group, c.before.before.before.before.before.before.before.before.requires.order)
+slice_bounds-fill_places-end c = omega (arith, c.find_line-n.ensures.most, c.find_line-n.ensures.size, c.requires.group, c.requires.order)
 
--- TURN: c.before.before.before.before.before.before.before.before.before not found
--- TURN: c.before.before.before.before.before.find-line not found
--- TURN: c.before.before.begin-at.ensures not found
 pub fill_places-requires : goal.fill_places-requires
 fill_places-requires c =
-    let z = c.before.before.before.before.before.before.before.before.before in
-    let a = z.args in
-    let y = c.find-line in
+    let a = c.args in
+    let y = c.find_line-n in
     record {
-      room = begun_room a.columns z.requires.room c.begin-at.ensures;
-      within = within_part y.new.0 y.result (omega (arith, y.ensures.most, y.ensures.size, z.requires.group, z.requires.order)) a.g.b (length a.s.now) (y.ensures.within (length a.s.now) (omega (arith, z.requires.laid.whole)) (λ x h. absurd (omega arith)));
+      room = begun_room a.columns c.requires.room c.begin_at.ensures;
+      within = within_part y.new.at y.result (omega (arith, y.ensures.most, y.ensures.size, c.requires.group, c.requires.order)) a.g.b (length a.s.now) (y.ensures.within (length a.s.now) (omega (arith, c.requires.laid.whole)) (λ x h. absurd (omega arith)));
     }
 
--- TURN: c.before.before.before.before.before.before.before.before.before.before.before.before not found
--- TURN: c.before.before.before.before.before.before.before.before.find-line not found
--- TURN: c.before.before.before.before.before.begin-at.ensures not found
 pub returns : goal.returns
 returns c =
-    let z = c.before.before.before.before.before.before.before.before.before.before.before.before in
-    let a = z.args in
+    let a = c.args in
     let s = a.s.now in
-    let y = c.find-line in
+    let y = c.find_line-n in
     put_same c.fill_places.ensures (λ l h.
-    ap₂ ◌⊕◌ (begun_at a.columns a.seed a.to l a.w.now c.begin-at.ensures)
-    (total_part y.new.0 y.result (omega (arith, y.ensures.most, y.ensures.size, z.requires.group, z.requires.order)) s l ∙ y.ensures.sums s l
+    ap₂ ◌⊕◌ (begun_at a.columns a.seed a.to l a.w.now c.begin_at.ensures)
+    (total_part y.new.at y.result (omega (arith, y.ensures.most, y.ensures.size, c.requires.group, c.requires.order)) s l ∙ y.ensures.sums s l
     ∙ ap (λ (v : ℕ). v ⊕ window_of a.g s a.slant a.i a.columns l) (total_none _ s l) ∙ zero_⊕ (window_of a.g s a.slant a.i a.columns l)))

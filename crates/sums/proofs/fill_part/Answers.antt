@@ -8,28 +8,19 @@ use Rattle.lines.specs.Places.{total}
 use native.Mathlib.Omega.{arith}
 use Rattle.sums.proofs.fill_part.Goals as goal
 
--- TURN: c.before.before.before.before.before.before.requires.room.near not found
--- TURN: c.before.before.before.before.before.before.requires.room.inside not found
 pub overflow_add-seed : goal.overflow_add-seed
-overflow_add-seed c = omega (arith, c.before.before.before.before.before.before.requires.room.near, c.before.before.before.before.before.before.requires.room.inside)
+overflow_add-seed c = omega (arith, c.requires.room.near, c.requires.room.inside)
 
--- TURN: c.before.before.before.before.before.before.requires.room.whole not found
 pub take-requires : goal.take-requires
-take-requires c = λ h. omega (arith, c.before.before.before.before.before.before.requires.room.whole (omega arith))
+take-requires c = λ h. omega (arith, c.requires.room.whole (omega arith))
 
--- TURN: c.before.before.before.before.before.before.before.before.before.before.requires.within not found
 pub add_cells-requires : goal.add_cells-requires
-add_cells-requires c = λ x h. omega (arith, c.before.before.before.before.before.before.before.before.before.before.requires.within x h, c.take.ensures.size)
+add_cells-requires c = λ x h. omega (arith, c.requires.within x h, c.take.ensures.size)
 
--- TURN: c.before.before.before.before.before.before.before.before.before.before.before.before.before.before.before.before.before.before.args not found
--- TURN: c.before.before.before.before.before.before.before.add-cells.new.0 not found
--- TURN: c.before.before.before.before.before.before.before.before.before.before.before.before.before.before.before.before.before.before.requires.room.inside not found
--- TURN: c.before.before.before.before.before.before.before.before.before.before.before.take.ensures not found
--- TURN: c.before.before.before.before.before.before.before.add-cells.ensures not found
 pub returns : goal.returns
 returns c =
-    let a = c.before.before.before.before.before.before.before.before.before.before.before.before.before.before.before.before.before.before.args in
-    let y = c.add-cells.new.0 in
-    put_same (put_copied a.w.now a.acc.now y c.copy_into.new.dst (a.to + a.j) (a.to + a.j + length y - (a.to + a.j)) _ (omega (arith, c.before.before.before.before.before.before.before.before.before.before.before.before.before.before.before.before.before.before.requires.room.inside)) (omega arith) (put_then_added c.take.ensures c.add-cells.ensures) c.copy_into.ensures) (λ l h.
+    let a = c.args in
+    let y = c.add_cells.new.acc in
+    put_same (put_copied a.w.now a.acc.now y c.copy_into.new.dst (a.to + a.j) (a.to + a.j + length y - (a.to + a.j)) _ (omega (arith, c.requires.room.inside)) (omega arith) (put_then_added c.take.ensures c.add_cells.ensures) c.copy_into.ensures) (λ l h.
     let e : a.seed + a.j + l ≡ a.seed + (a.j + l) = omega arith in
     ap (λ (x : ℕ). get_or a.w.now x 0 ⊕ total a.at.now (length a.at.now) a.s.now (a.j + l)) e)

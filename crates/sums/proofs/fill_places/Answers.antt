@@ -23,7 +23,7 @@ returns c =
     let q = c.fill_eight-x in
     let r = c.fill_small-j in
     let w = a.w.now in
-    let u = r.new.0 in
+    let u = r.new.w in
     put_count (fill_more a.seed a.s.now a.at.now c.requires.room.later w u c.fill_rest.new.w r.result (a.b - r.result)
-    (put_count (fill_more a.seed a.s.now a.at.now c.requires.room.later w q.new.0 u q.result (r.result - q.result) q.ensures.1 r.ensures.3) (omega (arith, r.ensures.0)))
+    (put_count (fill_more a.seed a.s.now a.at.now c.requires.room.later w q.new.w u q.result (r.result - q.result) q.ensures.1 r.ensures.3) (omega (arith, r.ensures.0)))
     c.fill_rest.ensures) (omega (arith, r.ensures.1))

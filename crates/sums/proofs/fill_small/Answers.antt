@@ -20,7 +20,7 @@ loop-j-preserved c =
       search rules,
       search rules,
       search rules,
-      fill_next a.seed a.s.now a.at.now c.requires.1.room.later a.w.now y.w p.new.1.0 a.x y.j 16 (omega arith) y.invariant.3 (put_count p.ensures y.invariant.2),
+      fill_next a.seed a.s.now a.at.now c.requires.1.room.later a.w.now y.w p.new.w a.x y.j 16 (omega arith) y.invariant.3 (put_count p.ensures y.invariant.2),
     )
 
 pub shape_of-w : goal.shape_of-w

@@ -47,7 +47,6 @@ row_below-i-requires c =
     let y = c.loop-r in
     (line_lt (y.r + c.args.shift) (omega (arith, c.requires.1.shift)) y.invariant.1, c.requires.1.laid.sized.few)
 
--- TURN: c.row-Below.ensures not found
 pub loop-r-preserved : goal.loop-r-preserved
 loop-r-preserved c =
     let a = c.args in
@@ -55,8 +54,8 @@ loop-r-preserved c =
     let f = c.fill_line in
     let end = parts_end a.g.b c.loop-r-test.true in (
       omega arith,
-      c.row-Below.ensures ∙ ap (λ (x : ℕ). (x + 1) % a.g.m) y.invariant.1 ∙ line_next a.g.m y.r a.shift,
-      cells_next a.columns a.g.b a.seed y.r a.w.now y.w f.new.0 (λ r l. window_of a.g a.s.now a.slant ((r + a.shift) % a.g.m) a.columns l)
+      c.row_below-i.ensures ∙ ap (λ (x : ℕ). (x + 1) % a.g.m) y.invariant.1 ∙ line_next a.g.m y.r a.shift,
+      cells_next a.columns a.g.b a.seed y.r a.w.now y.w f.new.w (λ r l. window_of a.g a.s.now a.slant ((r + a.shift) % a.g.m) a.columns l)
           (omega (arith, end, c.requires.0.before)) y.invariant.2
           (put_same f.ensures (λ l h. ap (λ (x : ℕ). begun a.columns y.w a.seed (y.r * a.g.b) l ⊕ window_of a.g a.s.now a.slant x a.columns l) y.invariant.1)),
     )

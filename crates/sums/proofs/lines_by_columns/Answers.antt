@@ -44,7 +44,7 @@ pub add_columns-requires-2 : goal.add_columns-requires-2
 add_columns-requires-2 c =
     let a = c.args in
     let y = c.repeat_last in
-    subst (λ (x : Columns). Half a.g a.s.now (length y.new.0) 0 a.shift x) (sym c.part_of.ensures) (record {
+    subst (λ (x : Columns). Half a.g a.s.now (length y.new.half) 0 a.shift x) (sym c.part_of.ensures) (record {
       sized = c.requires.1.laid.sized;
       whole = omega (arith, c.requires.0, y.ensures.size);
       shift = c.requires.1.shift;
@@ -71,7 +71,7 @@ returns c =
     let zero : a.columns.from ≡ 0 = omega (arith, c.if-columns-ne0.false) in
     let p = c.repeat_last in
     let q = c.add_columns-2 in
-    let ends = subst (λ (x : Columns). Lined (m - 1) b 0 p.new.0 q.new.0 (λ r l. get_or p.new.0 (0 + (r * b + l)) 0 ⊕ span_of a.g s 0 ((r + a.shift) % m) x l)) c.part_of.ensures q.ensures in
+    let ends = subst (λ (x : Columns). Lined (m - 1) b 0 p.new.half q.new.half (λ r l. get_or p.new.half (0 + (r * b + l)) 0 ⊕ span_of a.g s 0 ((r + a.shift) % m) x l)) c.part_of.ensures q.ensures in
     lined_same (lined_grown (m - 1) b 0 _ (lined_grown (m - 1) b 0 _ p.ensures ends) c.add_columns-3.ensures) (λ r l hr hl.
     let i : ℕ = (r + a.shift) % m in
     let n = lane_of a.g s a.columns l in

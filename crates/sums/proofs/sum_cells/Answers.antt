@@ -40,8 +40,8 @@ loop-t-preserved c =
     let e = c.group_end-e in
     let f = c.sum_lines in (
       e.ensures.1,
-      in_cells_next a.g a.s.now a.slant a.columns.u a.columns.v a.n a.shift a.seed a.w.now y.w f.new.0 y.t e.result e.ensures.0 y.invariant.1
-          (subst (λ (x : Columns). Lined a.n a.g.b 0 y.w f.new.0 (λ r l. begun x y.w a.seed (r * a.g.b) l ⊕ window_of a.g a.s.now a.slant ((r + a.shift) % a.g.m) x l)) c.part_of.ensures f.ensures),
+      in_cells_next a.g a.s.now a.slant a.columns.u a.columns.v a.n a.shift a.seed a.w.now y.w f.new.w y.t e.result e.ensures.0 y.invariant.1
+          (subst (λ (x : Columns). Lined a.n a.g.b 0 y.w f.new.w (λ r l. begun x y.w a.seed (r * a.g.b) l ⊕ window_of a.g a.s.now a.slant ((r + a.shift) % a.g.m) x l)) c.part_of.ensures f.ensures),
     )
 
 pub shape_of-w : goal.shape_of-w

@@ -44,8 +44,8 @@ loop-t-preserved c =
     let e = c.group_end-e in
     let f = c.fill_line in (
       e.ensures.1,
-      in_cell_next a.g a.s.now a.slant a.columns.u a.columns.v a.i a.seed a.to a.w.now y.w f.new.0 y.t e.result e.ensures.0 y.invariant.1
-          (subst (λ (x : Columns). Put y.w f.new.0 a.to a.g.b (λ l. begun x y.w a.seed a.to l ⊕ window_of a.g a.s.now a.slant a.i x l)) c.part_of.ensures f.ensures),
+      in_cell_next a.g a.s.now a.slant a.columns.u a.columns.v a.i a.seed a.to a.w.now y.w f.new.w y.t e.result e.ensures.0 y.invariant.1
+          (subst (λ (x : Columns). Put y.w f.new.w a.to a.g.b (λ l. begun x y.w a.seed a.to l ⊕ window_of a.g a.s.now a.slant a.i x l)) c.part_of.ensures f.ensures),
     )
 
 pub shape_of-w : goal.shape_of-w

@@ -17,4 +17,4 @@ returns-else-g-ge128 c =
     let a = c.args in
     let short = c.requires.0.short (omega (arith, c.if-g-ge128.false)) in
     let f = c.lines_by_columns in
-    lined_count (subst (λ (x : ℕ). Lined (a.g.m - 1) a.g.b 0 a.w.now f.new.0 (λ r l. begun a.columns a.w.now x (r * a.g.b) l ⊕ window_of a.g a.s.now a.slant ((r + a.shift) % a.g.m) a.columns l)) (sym short.1) f.ensures) (sym short.0)
+    lined_count (subst (λ (x : ℕ). Lined (a.g.m - 1) a.g.b 0 a.w.now f.new.half (λ r l. begun a.columns a.w.now x (r * a.g.b) l ⊕ window_of a.g a.s.now a.slant ((r + a.shift) % a.g.m) a.columns l)) (sym short.1) f.ensures) (sym short.0)

@@ -34,44 +34,31 @@ add_within-requires c =
     let size = c.add_run.ensures.size in
     (omega (arith, row, column_within c.requires.0 c.args.g.k (omega arith), size), omega (arith, row, column_within c.requires.0 c.args.t (omega (arith, c.requires.2)), size), λ less. omega (arith, row, parts_end c.args.g.column c.requires.2))
 
--- TURN: c.before.before.before.before.before.before.before.before.before.before.before.before.before.before not found
--- TURN: c.before.before.before.before.add-within.ensures.size not found
--- TURN: c.before.before.before.before.before.before.before.before.before.add-run.ensures.size not found
 pub add_run-requires-2 : goal.add_run-requires-2
 add_run-requires-2 c =
-    let z = c.before.before.before.before.before.before.before.before.before.before.before.before.before.before in
-    let size = c.add-within.ensures.size ∙ c.add-run.ensures.size in
-    (omega (arith, z.requires.1), omega (arith, row_within z.requires.0 z.args.i z.requires.3, column_within z.requires.0 z.args.t (omega (arith, z.requires.2)), size))
+    let size = c.add_within.ensures.size ∙ c.add_run.ensures.size in
+    (omega (arith, c.requires.1), omega (arith, row_within c.requires.0 c.args.i c.requires.3, column_within c.requires.0 c.args.t (omega (arith, c.requires.2)), size))
 
--- TURN: c.before.before.before.before.before.before.before.before.before.before.before.before.before.before.before.before.before not found
 pub overflow_add-at-2 : goal.overflow_add-at-2
-overflow_add-at-2 c = let z = c.before.before.before.before.before.before.before.before.before.before.before.before.before.before.before.before.before in omega (arith, row_within z.requires.0 z.args.i z.requires.3, column_within z.requires.0 z.args.t (omega (arith, z.requires.2)))
+overflow_add-at-2 c = omega (arith, row_within c.requires.0 c.args.i c.requires.3, column_within c.requires.0 c.args.t (omega (arith, c.requires.2)))
 
--- TURN: c.before.before.before.before.before.before.before.before.before.before.before.before.before.before.before.before.before not found
--- TURN: c.before.before.before.before.before.before.before.add-within.ensures.size not found
--- TURN: c.before.before.before.before.before.before.before.before.before.before.before.before.add-run.ensures.size not found
 pub slice_bounds-copy_into-end : goal.slice_bounds-copy_into-end
 slice_bounds-copy_into-end c =
-    let z = c.before.before.before.before.before.before.before.before.before.before.before.before.before.before.before.before.before in
-    let size = c.add-within.ensures.size ∙ c.add-run.ensures.size in
-    omega (arith, size, row_within z.requires.0 z.args.i z.requires.3, column_within z.requires.0 z.args.t (omega (arith, z.requires.2)))
+    let size = c.add_within.ensures.size ∙ c.add_run.ensures.size in
+    omega (arith, size, row_within c.requires.0 c.args.i c.requires.3, column_within c.requires.0 c.args.t (omega (arith, c.requires.2)))
 
--- TURN: c.before.before.before.before.before.before.before.before.before.before.before.before.before.before.before.before.before.before.before.before.before not found
--- TURN: c.before.before.before.before.before.before.before.before.before.before.before.before.before.before.before.before.add-run not found
--- TURN: c.before.before.before.before.before.before.before.before.before.before.before.add-within not found
 pub returns : goal.returns
 returns c =
-    let z = c.before.before.before.before.before.before.before.before.before.before.before.before.before.before.before.before.before.before.before.before.before in
-    let a = z.args in
+    let a = c.args in
     let g = a.g in
     let at : ℕ = a.t * g.column + a.i * g.b in
-    let first = c.add-run in
-    let second = c.add-within in
+    let first = c.add_run in
+    let second = c.add_within in
     let third = c.add_run-2 in
     let copied = c.copy_into in
     let size = second.ensures.size ∙ first.ensures.size in
-    changed_owing z.requires.0.sized g.k a.t a.i a.s.now _ a.cell.now z.requires.0.few z.requires.2 z.requires.3 first.new.0 second.new.0 second.new.0
+    changed_owing c.requires.0.sized g.k a.t a.i a.s.now _ a.cell.now c.requires.0.few c.requires.2 c.requires.3 first.new.w second.new.w second.new.w
     first.ensures second.ensures (λ p h. refl)
-    (put_count (put_part_lem second.new.0 copied.new.0 at (at + g.b - at) (λ l. get_or a.cell.now l 0) (omega (arith, size, row_within z.requires.0 z.args.i z.requires.3, column_within z.requires.0 z.args.t (omega (arith, z.requires.2)))) (ap length copied.ensures ∙ z.requires.5 ∙ omega arith)
+    (put_count (put_part_lem second.new.w copied.new.dst at (at + g.b - at) (λ l. get_or a.cell.now l 0) (omega (arith, size, row_within c.requires.0 c.args.i c.requires.3, column_within c.requires.0 c.args.t (omega (arith, c.requires.2)))) (ap length copied.ensures ∙ c.requires.5 ∙ omega arith)
     (λ l h. ap (λ (x : List ℕ). get_or x l 0) copied.ensures)) (omega arith))
-    z.requires.4 a.owed.now third.new.0 refl third.ensures
+    c.requires.4 a.owed.now third.new.w refl third.ensures

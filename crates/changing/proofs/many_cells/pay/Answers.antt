@@ -37,7 +37,7 @@ loop-i-preserved c =
     let a = c.args in
     let y = c.loop-i in
     let q = c.add_run in
-    (search rules, grown_more y.i a.g.b (a.g.k * a.g.column + a.g.column) a.s.now y.s q.new.0 (λ r l. get_or a.owed.now (0 + l) 0) y.invariant.1 q.ensures)
+    (search rules, grown_more y.i a.g.b (a.g.k * a.g.column + a.g.column) a.s.now y.s q.new.w (λ r l. get_or a.owed.now (0 + l) 0) y.invariant.1 q.ensures)
 
 pub shape_of-s : goal.shape_of-s
 shape_of-s c = c.loop-i.invariant.1.size

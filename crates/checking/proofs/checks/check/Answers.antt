@@ -33,21 +33,16 @@ overflow_mul-k c = let n = good c in omega (arith, (parity_inside n.shape n.colu
 pub is_blank-requires : goal.is_blank-requires
 is_blank-requires c = let n = good c in (parity_inside n.shape n.column n.stripe).0
 
--- TURN: z is the place In-Good
 pub returns-then-is_blank : goal.returns-then-is_blank
 returns-then-is_blank c =
     let a = c.args in
-    blank_checks a.m a.k a.b a.stripe.now (passed c) (zeros_tell a.m a.k a.b a.stripe.now _ c.is_blank.ensures c.if-is_blank.true)
+    blank_checks a.m a.k a.b a.stripe.now (passed c.before.before) (zeros_tell a.m a.k a.b a.stripe.now _ c.is_blank.ensures c.if-is_blank.true)
 
--- TURN: c.before.before is the place In-Good
 pub count_broken-requires : goal.count_broken-requires
-count_broken-requires c = let n = good c in laid n.shape n.column n.stripe
+count_broken-requires c = let n = good c.before.before in laid n.shape n.column n.stripe
 
--- TURN: z is the place In-Good
--- TURN: z is the place In-Good
--- TURN: z is the place In-Good
 pub returns : goal.returns
 returns c =
     let a = c.args in
     let r = c.count_broken.ensures in
-    says_checks a.m a.k a.b a.stripe.now (passed c) (no_zeros_tell a.m a.k a.b a.stripe.now _ c.is_blank.ensures (good c).shape (good c).stripe c.if-is_blank.false) c.count_broken.result r.0 r.1 c.told.result c.told.ensures
+    says_checks a.m a.k a.b a.stripe.now (passed c.before.before.before.before) (no_zeros_tell a.m a.k a.b a.stripe.now _ c.is_blank.ensures (good c.before.before.before.before).shape (good c.before.before.before.before).stripe c.if-is_blank.false) c.count_broken.result r.0 r.1 c.told.result c.told.ensures

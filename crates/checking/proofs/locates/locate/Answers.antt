@@ -33,40 +33,29 @@ overflow_mul-k c = let n = good c in omega (arith, (parity_inside n.shape n.colu
 pub is_blank-requires : goal.is_blank-requires
 is_blank-requires c = let n = good c in (parity_inside n.shape n.column n.stripe).0
 
--- TURN: z is the place In-Good
--- TURN: z is the place In-Good
 pub returns-then-is_blank : goal.returns-then-is_blank
 returns-then-is_blank c =
     let a = c.args in
-    locate_blank a.m a.k a.b (good c).shape a.stripe.now (stripe c) (zeros_tell a.m a.k a.b a.stripe.now _ c.is_blank.ensures c.if-is_blank.true)
+    locate_blank a.m a.k a.b (good c.before.before).shape a.stripe.now (stripe c.before.before) (zeros_tell a.m a.k a.b a.stripe.now _ c.is_blank.ensures c.if-is_blank.true)
 
--- TURN: c.before.before is the place In-Good
 pub locate-requires : goal.locate-requires
 locate-requires c =
-    let n = good c in
+    let n = good c.before.before in
     record { laid = laid n.shape n.column n.stripe; odd = n.shape.value.odd; prime = n.shape.value.prime }
 
--- TURN: z is the place In-Good
--- TURN: z is the place In-Good
--- TURN: z is the place In-Good
--- TURN: z is the place In-Good
 pub returns-in-Nothing : goal.returns-in-Nothing
 returns-in-Nothing c =
     let a = c.args in
-    locate_intact a.m a.k a.b (good c).shape a.stripe.now (stripe c) (subst (Blamed a.m a.k a.b a.stripe.now) c.in-Nothing.is c.locate.ensures)
-    (no_zeros_tell a.m a.k a.b a.stripe.now _ c.is_blank.ensures (good c).shape (good c).stripe c.if-is_blank.false)
+    locate_intact a.m a.k a.b (good c.before.before.before.before.before).shape a.stripe.now (stripe c.before.before.before.before.before) (subst (Blamed a.m a.k a.b a.stripe.now) c.in-Nothing.is c.locate.ensures)
+    (no_zeros_tell a.m a.k a.b a.stripe.now _ c.is_blank.ensures (good c.before.before.before.before.before).shape (good c.before.before.before.before.before).stripe c.if-is_blank.false)
 
--- TURN: z is the place In-Good
--- TURN: z is the place In-Good
 pub returns-in-Nobody : goal.returns-in-Nobody
 returns-in-Nobody c =
     let a = c.args in
-    locate_nobody a.m a.k a.b (good c).shape a.stripe.now (stripe c) (subst (Blamed a.m a.k a.b a.stripe.now) c.in-Nobody.is c.locate.ensures).1
+    locate_nobody a.m a.k a.b (good c.before.before.before.before.before).shape a.stripe.now (stripe c.before.before.before.before.before) (subst (Blamed a.m a.k a.b a.stripe.now) c.in-Nobody.is c.locate.ensures).1
 
--- TURN: z is the place In-Good
--- TURN: z is the place In-Good
 pub returns-in-Column : goal.returns-in-Column
 returns-in-Column c =
     let a = c.args in
     let found = subst (Blamed a.m a.k a.b a.stripe.now) c.in-Column.is c.locate.ensures in
-    locate_column a.m a.k a.b (good c).shape a.stripe.now (stripe c) _ found.0 found.1 found.2
+    locate_column a.m a.k a.b (good c.before.before.before.before.before.before).shape a.stripe.now (stripe c.before.before.before.before.before.before) _ found.0 found.1 found.2

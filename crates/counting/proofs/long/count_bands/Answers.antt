@@ -12,9 +12,8 @@ use borrow.Author.Rules.{rules}
 use native.Mathlib.Omega.{arith}
 use Rattle.counting.proofs.long.count_bands.Goals as goal
 
--- TURN: no goal nonzero-div-most
--- div_most : tie.Need-nonzero-div-most invariant-loop decreases-loop
--- div_most c = omega (arith, c.before.before.before.before.requires.laid.sized.filled)
+pub nonzero_div-most : goal.nonzero_div-most
+nonzero_div-most c = omega (arith, c.requires.laid.sized.filled)
 
 pub loop-first-init : goal.loop-first-init
 loop-first-init c = (search rules, search rules, omega arith, λ l h. refl, found_begin _ _ _)
@@ -35,74 +34,45 @@ grow_band-requires c =
       room = omega (arith, c.requires.room, y.1);
     }
 
--- TURN: c.before.before.before.before.before.before.before.before.before.before.before.before.before.before.before not found
--- TURN: c.before.before.before.before.before.before.before.before.fewer.ensures.1 not found
--- TURN: c.before.before.before.before.before.before.before.before.before.before.loop.invariant.1 not found
--- TURN: c.before.before.before.before.before.grow-band.ensures.size not found
 pub count_cells-found-requires : goal.count_cells-found-requires
 count_cells-found-requires c =
-    let z = c.before.before.before.before.before.before.before.before.before.before.before.before.before.before.before in
-    omega (arith, cells_room _ z.args.g.b z.args.seed c.fewer.ensures.1, z.requires.room, c.loop.invariant.1, c.grow-band.ensures.size)
+    omega (arith, cells_room _ c.args.g.b c.args.seed c.fewer-n.ensures.1, c.requires.room, c.loop-first.invariant.1, c.grow_band.ensures.size)
 
--- TURN: c.before.before.before.before.before.before.before.before.before.before.before.before.before.before.loop.invariant.2 not found
--- TURN: c.before.before.before.before.before.before.before.before.before.before.before.before.before.before.loop.invariant.4.most not found
--- TURN: c.before.before.before.before.before.before.before.before.before.before.before.before.fewer.ensures.2 not found
--- TURN: c.before.before.before.before.before.before.before.before.before.before.before.before.before.before.before.before.before.before.before.requires.laid.sized.few not found
 pub overflow_add-count : goal.overflow_add-count
-overflow_add-count c = omega (arith, c.loop.invariant.2, c.loop.invariant.4.most, c.fewer.ensures.2, c.before.before.before.before.before.before.before.before.before.before.before.before.before.before.before.before.before.before.before.requires.laid.sized.few, c.count_cells-found.ensures.most)
+overflow_add-count c = omega (arith, c.loop-first.invariant.2, c.loop-first.invariant.4.most, c.fewer-n.ensures.2, c.requires.laid.sized.few, c.count_cells-found.ensures.most)
 
--- TURN: c.before.before.before.before.before.before.before.before.before.before.before.before.before.before.before.loop.invariant.2 not found
--- TURN: c.before.before.before.before.before.before.before.before.before.before.before.before.before.fewer.ensures.2 not found
--- TURN: c.before.before.before.before.before.before.before.before.before.before.before.before.before.before.before.before.before.before.before.before.requires.laid.sized.few not found
 pub overflow_add-last : goal.overflow_add-last
-overflow_add-last c = omega (arith, c.loop.invariant.2, c.fewer.ensures.2, c.before.before.before.before.before.before.before.before.before.before.before.before.before.before.before.before.before.before.before.before.requires.laid.sized.few, (c.count_cells-found.ensures.there (omega (arith, c.if-found-ne0.true))).0)
+overflow_add-last c = omega (arith, c.loop-first.invariant.2, c.fewer-n.ensures.2, c.requires.laid.sized.few, (c.count_cells-found.ensures.there (omega (arith, c.if-found-ne0.true))).0)
 
--- TURN: c.before.before.before.before.before.before.before.before.before.before.before.before.before.before.before.before.loop.invariant.0 not found
--- TURN: c.before.before.before.before.before.before.before.before.before.before.before.grow-band.auto not found
 pub shape_of-at-then-enough-count : goal.shape_of-at-then-enough-count
-shape_of-at-then-enough-count c = omega (arith, c.loop.invariant.0, c.grow-band.auto)
+shape_of-at-then-enough-count c = omega (arith, c.loop-first.invariant.0, c.grow_band.auto)
 
--- TURN: c.before.before.before.before.before.before.before.before.before.before.before.before.before.before.before.before.loop.invariant.1 not found
--- TURN: c.before.before.before.before.before.before.before.before.before.before.before.grow-band.ensures.size not found
 pub shape_of-w-then-enough-count : goal.shape_of-w-then-enough-count
-shape_of-w-then-enough-count c = omega (arith, c.loop.invariant.1, c.grow-band.ensures.size)
+shape_of-w-then-enough-count c = omega (arith, c.loop-first.invariant.1, c.grow_band.ensures.size)
 
--- TURN: c.before.before.before.before.before.before.before.before.before.before.before.before.before.before.before.before.before.before.before.before.before.args not found
--- TURN: c.before.before.before.before.before.before.before.before.before.before.before.before.before.before.before.before.loop not found
--- TURN: c.before.before.before.before.before.before.before.before.before.before.before.before.before.before.fewer not found
--- TURN: c.before.before.before.before.before.before.before.before.before.before.before.grow-band not found
 pub returns-then-enough-count : goal.returns-then-enough-count
 returns-then-enough-count c =
-    let a = c.before.before.before.before.before.before.before.before.before.before.before.before.before.before.before.before.before.before.before.before.before.args in
-    let y = c.loop in
-    let n = c.fewer in
-    let v = c.grow-band in
+    let a = c.args in
+    let y = c.loop-first in
+    let n = c.fewer-n in
+    let v = c.grow_band in
     let r = c.count_cells-found in
     let f : ℕ → ℕ → ℕ = λ l d. get_or a.w.now (a.seed + l) 0 ⊕ test_line a.g a.s.now a.u d l in
     let band = band_found y.first a.seed a.w.now y.w (λ l d. test_line a.g a.s.now a.u d l) v.ensures y.invariant.3 r.ensures in
     found_enough (found_after a.enough a.g.b f y.count y.last y.first y.invariant.4 n.result r.result.count r.result.last c.if-found-ne0.true band) (a.g.m - 1) c.if-enough-count.true (omega (arith, n.ensures.2, y.invariant.2))
 
--- TURN: c.before.before.before.before.before.before.before.before.before.before.before.before.before.loop.invariant.2 not found
--- TURN: c.before.before.before.before.before.before.before.before.before.before.before.fewer.ensures.2 not found
--- TURN: c.before.before.before.before.before.before.before.before.before.before.before.before.before.before.before.before.before.before.requires.laid.sized.few not found
 pub overflow_add-first : goal.overflow_add-first
-overflow_add-first c = omega (arith, c.loop.invariant.2, c.fewer.ensures.2, c.before.before.before.before.before.before.before.before.before.before.before.before.before.before.before.before.before.before.requires.laid.sized.few)
+overflow_add-first c = omega (arith, c.loop-first.invariant.2, c.fewer-n.ensures.2, c.requires.laid.sized.few)
 
--- TURN: c.before.before.before.before.before.before.before.before.before.before.before.fewer.ensures not found
--- TURN: c.before.before.before.before.before.before.before.before.before.before.before.before.loop-test not found
 pub loop-first-smaller : goal.loop-first-smaller
-loop-first-smaller c = omega (arith, c.fewer.ensures, c.loop-test)
+loop-first-smaller c = omega (arith, c.fewer-n.ensures, c.loop-first-test)
 
--- TURN: c.before.before.before.before.before.before.before.before.before.before.before.before.before.before.before.before.before.before.args not found
--- TURN: c.before.before.before.before.before.before.before.before.before.before.before.before.before.loop not found
--- TURN: c.before.before.before.before.before.before.before.before.before.before.before.fewer not found
--- TURN: c.before.before.before.before.before.before.before.before.grow-band not found
 pub loop-first-preserved : goal.loop-first-preserved
 loop-first-preserved c =
-    let a = c.before.before.before.before.before.before.before.before.before.before.before.before.before.before.before.before.before.before.args in
-    let y = c.loop in
-    let n = c.fewer in
-    let v = c.grow-band in
+    let a = c.args in
+    let y = c.loop-first in
+    let n = c.fewer-n in
+    let v = c.grow_band in
     let r = c.count_cells-found in
     let f : ℕ → ℕ → ℕ = λ l d. get_or a.w.now (a.seed + l) 0 ⊕ test_line a.g a.s.now a.u d l in
     let band = band_found y.first a.seed a.w.now y.w (λ l d. test_line a.g a.s.now a.u d l) v.ensures y.invariant.3 r.ensures in

@@ -35,7 +35,7 @@ loop-d-preserved c =
     let y = c.loop-d in
     let r = c.fold_line in
     let f : ℕ → ℕ → ℕ = λ l d. get_or a.seed.now l 0 ⊕ test_line a.g a.s.now a.u d l in
-    let e : length r.new.0 ≡ length a.at.now = omega (arith, y.invariant.0, r.auto) in
+    let e : length r.new.at ≡ length a.at.now = omega (arith, y.invariant.0, r.auto) in
     ⊎_elim
     (λ w. (e, y.invariant.1, omega arith, found_as w.2 w.3 (found_more a.enough a.g.b f y.count y.last y.d y.invariant.3 r.result r.ensures w.0.taken)))
     (λ w. (e, y.invariant.1, omega arith, found_as w.1 w.2 (found_same a.enough a.g.b f y.count y.last y.d y.invariant.3 r.result r.ensures w.0.left))) c.if-fold_line-ne0.branch

@@ -10,9 +10,6 @@ take-requires c = λ h. omega (arith, c.requires.1, c.requires.2 (omega arith))
 pub add_cells-requires : goal.add_cells-requires
 add_cells-requires c = λ x h. omega (arith, c.requires.1, c.requires.3 x h, c.take.ensures.size)
 
--- TURN: c.before.before.before.before.before.before.before.before.before.before.before.take.ensures not found
--- TURN: c.before.before.before.before.before.before.before.add-cells.ensures not found
--- TURN: c.before.before.before.before.before.before.before.before.before.before.before.before.before.before.before.before.before.before.requires.1 not found
 pub returns : goal.returns
 returns c =
-    gathered_same c.gather.ensures (put_start (put_count (put_then_added c.take.ensures c.add-cells.ensures) c.before.before.before.before.before.before.before.before.before.before.before.before.before.before.before.before.before.before.requires.1))
+    gathered_same c.gather.ensures (put_start (put_count (put_then_added c.take.ensures c.add_cells.ensures) c.requires.1))

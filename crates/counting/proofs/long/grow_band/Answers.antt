@@ -20,32 +20,28 @@ pub group_of-e-requires : goal.group_of-e-requires
 group_of-e-requires c =
     (c.loop-t-test.true, omega (arith, c.requires.laid.few, c.requires.laid.sized.few))
 
--- TURN: c.before.before.Group-of.ensures not found
 pub grow_lines-requires : goal.grow_lines-requires
 grow_lines-requires c =
     let y = c.loop-t.invariant in
-    let e = c.Group-of.ensures in (
+    let e = c.group_of-e.ensures in (
       omega (arith, e.0),
       e.2,
       e.1,
       record { laid = c.requires.laid; places = omega (arith, c.requires.places, y.1); lines = c.requires.lines; before = c.requires.before; room = omega (arith, c.requires.room, y.2.size) },
     )
 
--- TURN: c.before.before.before.before.before.before.before.Group-of.ensures.0 not found
--- TURN: c.before.before.before.before.before.before.before.Group-of.ensures.1 not found
 pub loop-t-smaller : goal.loop-t-smaller
-loop-t-smaller c = omega (arith, c.Group-of.ensures.0, c.Group-of.ensures.1)
+loop-t-smaller c = omega (arith, c.group_of-e.ensures.0, c.group_of-e.ensures.1)
 
--- TURN: c.before.before.before.before.before.before.before.Group-of not found
 pub loop-t-preserved : goal.loop-t-preserved
 loop-t-preserved c =
     let a = c.args in
     let y = c.loop-t in
-    let e = c.Group-of in
+    let e = c.group_of-e in
     let f = c.grow_lines in (
       e.ensures.1,
       omega (arith, y.invariant.1, f.auto),
-      in_band_next a.g a.s.now a.u a.first a.n a.seed a.w.now y.w f.new.1.0 y.t e.result e.ensures.0 y.invariant.2 f.ensures,
+      in_band_next a.g a.s.now a.u a.first a.n a.seed a.w.now y.w f.new.w y.t e.result e.ensures.0 y.invariant.2 f.ensures,
     )
 
 pub shape_of-at : goal.shape_of-at

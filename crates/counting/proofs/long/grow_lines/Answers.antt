@@ -43,7 +43,7 @@ loop-r-preserved c =
     let f = c.grow_line in (
       omega arith,
       omega (arith, y.invariant.1, f.auto),
-      cells_next (columns_of a.piece) a.g.b a.seed y.r a.w.now y.w f.new.1.0 (λ r l. piece_of a.g a.s.now (below a.piece r) l)
+      cells_next (columns_of a.piece) a.g.b a.seed y.r a.w.now y.w f.new.w (λ r l. piece_of a.g a.s.now (below a.piece r) l)
           (omega (arith, c.requires.3.before, parts_end a.g.b c.loop-r-test.true)) y.invariant.2 f.ensures,
     )
 

@@ -8,18 +8,11 @@ use Rattle.counting.proofs.Bands.{band_at}
 use native.Mathlib.Omega.{arith}
 use Rattle.counting.proofs.short.count_columns.Goals as goal
 
--- TURN: c.before.before.before.before.before.before.before.before.before.before.before.before.before.before.before.before not found
--- TURN: c.before.before.before.add-lines.ensures.size not found
--- TURN: c.before.before.before.before.before.before.before.before.before.start-lines.ensures.size not found
 pub count_cells-requires : goal.count_cells-requires
 count_cells-requires c =
-    let z = c.before.before.before.before.before.before.before.before.before.before.before.before.before.before.before.before in
-    omega (arith, column_room z.requires.laid.sized z.requires.whole, c.add-lines.ensures.size, c.start-lines.ensures.size)
+    omega (arith, column_room c.requires.laid.sized c.requires.whole, c.add_lines.ensures.size, c.start_lines.ensures.size)
 
--- TURN: c.before.before.before.before.before.before.before.before.before.before.before.before.before.before.before.before.before.args not found
--- TURN: c.before.before.before.before.before.before.before.before.before.before.start-lines.ensures not found
--- TURN: c.before.before.before.before.add-lines.ensures not found
 pub returns : goal.returns
 returns c =
-    let a = c.before.before.before.before.before.before.before.before.before.before.before.before.before.before.before.before.before.args in
-    found_cong c.count_cells.ensures (band_at (lined_grown (a.g.m - 1) a.g.b 0 (λ r l. test_line a.g a.s.now a.u r l) c.start-lines.ensures c.add-lines.ensures))
+    let a = c.args in
+    found_cong c.count_cells.ensures (band_at (lined_grown (a.g.m - 1) a.g.b 0 (λ r l. test_line a.g a.s.now a.u r l) c.start_lines.ensures c.add_lines.ensures))

@@ -9,22 +9,16 @@ use Rattle.counting.proofs.Breaking.{listed_total, listed_in}
 use native.Mathlib.Omega.{arith}
 use Rattle.counting.proofs.testing.sum_last.Goals as goal
 
--- TURN: c.before.before.before.before.before.before.before.before.before.before.before not found
--- TURN: c.before.before.before.before.before.find-piece.ensures not found
 pub fill_places-requires : goal.fill_places-requires
 fill_places-requires c =
-    let z = c.before.before.before.before.before.before.before.before.before.before.before in
     record {
-      room = record { inside = z.requires.0; later = omega (arith, z.requires.0); near = omega arith; whole = λ h. absurd (omega arith) };
-      within = listed_in c.find-piece.ensures (omega (arith, z.requires.1)) (length z.args.s.now) (omega (arith, z.requires.2.whole));
+      room = record { inside = c.requires.0; later = omega (arith, c.requires.0); near = omega arith; whole = λ h. absurd (omega arith) };
+      within = listed_in c.find_piece-n.ensures (omega (arith, c.requires.1)) (length c.args.s.now) (omega (arith, c.requires.2.whole));
     }
 
--- TURN: c.before.before.before.before.before.before.before.before.before.before.before.before.before.before not found
--- TURN: c.before.before.before.before.before.before.before.before.find-piece.ensures not found
 pub returns : goal.returns
 returns c =
-    let z = c.before.before.before.before.before.before.before.before.before.before.before.before.before.before in
-    let a = z.args in
+    let a = c.args in
     let w = a.w.now in
-    let e = listed_total c.find-piece.ensures (omega (arith, z.requires.1)) a.s.now in
+    let e = listed_total c.find_piece-n.ensures (omega (arith, c.requires.1)) a.s.now in
     put_same c.fill_places.ensures (λ l h. ap₂ ◌⊕◌ (get_or-eq_default w 0 {n = length w + l} (omega arith)) (e l) ∙ zero_⊕ _)

@@ -19,14 +19,12 @@ returns-in_default c =
     let a = c.args in
     record { told = told_refused (stripe_rules a.m a.k a.b (length a.stripe.now)) [] c.judge_stripe-judged.result c.judge_stripe-judged.ensures.told c.in_default.is c.refusal.ensures; written = refl }
 
--- TURN: c.before is the place In-Good
 pub put_parity-requires : goal.put_parity-requires
-put_parity-requires c = let n = good c in laid n.shape n.column n.stripe
+put_parity-requires c = let n = good c.before in laid n.shape n.column n.stripe
 
--- TURN: z is the place In-Good
 pub returns : goal.returns
 returns c =
-    let n = good c in
+    let n = good c.before.before.before.before in
     let a = c.args in
     let r = c.put_parity.ensures in
     let after = c.put_parity.new.s in

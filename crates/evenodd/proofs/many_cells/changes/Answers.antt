@@ -21,18 +21,16 @@ returns-in_default c =
 pub judge_items-items-requires : goal.judge_items-items-requires
 judge_items-items-requires c = let n = good c in (omega (arith, n.numbers.shape.value.prime.big), n.lists.even)
 
--- TURN: at.before is the place In-Good
 pub returns-in-Refused : goal.returns-in-Refused
 returns-in-Refused c =
-    let n = good c in
+    let n = good c.before.before.before.before in
     let a = c.args in
     one_refused a.m a.k a.b a.columns.now a.rows.now a.cells.now a.stripe.now n.numbers.shape n.numbers.stripe n.lists
     (items_refused a.m a.k a.columns.now a.rows.now c.judge_items-items.result c.judge_items-items.ensures c.in-Refused.is)
 
--- TURN: at.before is the place In-Good
 pub change_cells-requires : goal.change_cells-requires
 change_cells-requires c =
-    let n = good c in
+    let n = good c.before.before.before.before in
     let a = c.args in (
       laid n.numbers.shape n.numbers.column n.numbers.stripe,
       record {
@@ -44,10 +42,9 @@ change_cells-requires c =
       },
     )
 
--- TURN: at.before is the place In-Good
 pub returns : goal.returns
 returns c =
-    let n = good c in
+    let n = good c.before.before.before.before.before.before.before in
     let a = c.args in
     all_changed a.m a.k a.b a.columns.now a.rows.now a.cells.now a.stripe.now n.numbers.shape n.numbers.stripe n.lists
     (items_good a.m a.k a.columns.now a.rows.now c.judge_items-items.result c.judge_items-items.ensures c.in_default-items.is)

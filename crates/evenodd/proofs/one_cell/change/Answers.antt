@@ -19,46 +19,40 @@ returns-in_default c =
     change_refused a.m a.k a.b a.column a.row a.cell.now a.stripe.now (told_refused (stripe_rules a.m a.k a.b (length a.stripe.now))
     (cell_rules a.m a.k a.b a.column a.row (length a.cell.now)) c.judge_stripe-judged.result c.judge_stripe-judged.ensures.told c.in_default.is c.refusal.ensures)
 
--- TURN: c.before is the place In-Good
 pub returns-then-k-column : goal.returns-then-k-column
 returns-then-k-column c =
-    let n = good c in
+    let n = good c.before in
     let a = c.args in
     change_refused a.m a.k a.b a.column a.row a.cell.now a.stripe.now
     (change_told a.m a.k a.b a.column a.row a.cell.now a.stripe.now n.shape n.stripe (gives_first c.if-k-column.true))
 
--- TURN: c.before is the place In-Good
 pub overflow_sub-m : goal.overflow_sub-m
-overflow_sub-m c = omega (arith, (good c).shape.value.prime.big)
+overflow_sub-m c = omega (arith, (good c.before).shape.value.prime.big)
 
--- TURN: c.before.before is the place In-Good
 pub returns-then-m-row : goal.returns-then-m-row
 returns-then-m-row c =
-    let n = good c in
+    let n = good c.before.before in
     let a = c.args in
     change_refused a.m a.k a.b a.column a.row a.cell.now a.stripe.now
     (change_told a.m a.k a.b a.column a.row a.cell.now a.stripe.now n.shape n.stripe
     (gives_next (λ out. omega (arith, c.if-k-column.false)) (gives_first c.if-m-row.true)))
 
--- TURN: c.before.before.before is the place In-Good
 pub returns-then-cell-b : goal.returns-then-cell-b
 returns-then-cell-b c =
-    let n = good c in
+    let n = good c.before.before.before in
     let a = c.args in
     change_refused a.m a.k a.b a.column a.row a.cell.now a.stripe.now
     (change_told a.m a.k a.b a.column a.row a.cell.now a.stripe.now n.shape n.stripe
     (gives_next (λ out. omega (arith, c.if-k-column.false)) (gives_next (λ out. omega (arith, c.if-m-row.false)) (gives_first c.if-cell-b.true))))
 
--- TURN: c.before.before.before.before is the place In-Good
 pub change_cell-requires : goal.change_cell-requires
 change_cell-requires c =
-    let n = good c in
+    let n = good c.before.before.before.before in
     (laid n.shape n.column n.stripe, omega (arith, c.if-k-column.false), omega (arith, c.if-m-row.false), c.if-cell-b.false)
 
--- TURN: c.before.before.before.before.before.before.before is the place In-Good
 pub returns : goal.returns
 returns c =
-    let n = good c in
+    let n = good c.before.before.before.before.before.before.before in
     let a = c.args in
     record {
       told = change_passed a.m a.k a.b a.column a.row a.cell.now a.stripe.now (record {

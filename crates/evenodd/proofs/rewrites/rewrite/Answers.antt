@@ -29,43 +29,30 @@ returns-in_default c =
 pub overflow_add-k : goal.overflow_add-k
 overflow_add-k c = omega (arith, (good c).shape.few, (good c).shape.value.most)
 
--- TURN: z is the place In-Good
--- TURN: z is the place In-Good
 pub returns-then-k-column : goal.returns-then-k-column
 returns-then-k-column c =
     let a = c.args in
-    rewrite_outside a.m a.k a.b a.column (good c).shape a.stripe.now (stripe c) c.if-k-column.true
+    rewrite_outside a.m a.k a.b a.column (good c.before).shape a.stripe.now (stripe c.before) c.if-k-column.true
 
--- TURN: c.before.before is the place In-Good-2
 pub fits_but-fits-requires : goal.fits_but-fits-requires
-fits_but-fits-requires c = let n = good c in laid n.shape n.column n.stripe
+fits_but-fits-requires c = let n = good c.before.before in laid n.shape n.column n.stripe
 
--- TURN: z.before.before.before.before.before.args not found
--- TURN: z is the place In-Good-2
--- TURN: z is the place In-Good-2
--- TURN: c.before.before.before.if1.false not found
 pub returns-then-not-fits : goal.returns-then-not-fits
 returns-then-not-fits c =
-    let a = c.before.before.before.before.before.args in
+    let a = c.args in
     let r = c.fits_but-fits in
-    rewrite_none a.m a.k a.b a.column (good c).shape a.stripe.now (stripe c) (omega (arith, c.if1.false)) (λ f. true≢false (sym (r.ensures.1 f) ∙ not-true r.result c.if-not-fits.true-raw))
+    rewrite_none a.m a.k a.b a.column (good c.before.before.before.before).shape a.stripe.now (stripe c.before.before.before.before) (omega (arith, c.if-k-column.false)) (λ f. true≢false (sym (r.ensures.1 f) ∙ not-true r.result c.if-not-fits.true-raw))
 
--- TURN: c.before.before.before.before.before is the place In-Good-2
--- TURN: c.before.before.before.before.if1.false not found
 pub rewrite-requires : goal.rewrite-requires
 rewrite-requires c =
-    let n = good c in
-    (laid n.shape n.column n.stripe, omega (arith, c.if1.false))
+    let n = good c.before.before.before.before.before in
+    (laid n.shape n.column n.stripe, omega (arith, c.if-k-column.false))
 
 pub shape_of-stripe : goal.shape_of-stripe
 shape_of-stripe c = c.rewrite.ensures.size
 
--- TURN: z.before.before.before.before.before.args not found
--- TURN: z is the place In-Good-2
--- TURN: z is the place In-Good-2
--- TURN: c.before.before.before.before.before.before.before.if1.false not found
 pub returns : goal.returns
 returns c =
-    let a = c.before.before.before.before.before.args in
+    let a = c.args in
     let r = c.fits_but-fits in
-    rewrite_done a.m a.k a.b a.column (good c).shape a.stripe.now (stripe c) (omega (arith, c.if1.false)) (r.ensures.0 (not-false r.result c.if-not-fits.false-raw)) _ c.rewrite.ensures.becomes
+    rewrite_done a.m a.k a.b a.column (good c.before.before.before.before.before.before.before.before).shape a.stripe.now (stripe c.before.before.before.before.before.before.before.before) (omega (arith, c.if-k-column.false)) (r.ensures.0 (not-false r.result c.if-not-fits.false-raw)) _ c.rewrite.ensures.becomes

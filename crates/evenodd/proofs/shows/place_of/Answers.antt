@@ -16,18 +16,16 @@ good : (c : goal.In-Good) → let a = c.args in
 good c = lent_good _ _ _ _ _ _ c.judge_lent-judged.result c.judge_lent-judged.ensures c.in-Good.is
 
 -- past every refusal
--- TURN: one.before.before is the place In-Good
 passed : (c : goal.Else-absent-gt2) → let a = c.args in
     NotRefused a.m a.k a.b a.map a.stripe.now a.bench.now a.column × (c.in-Good.length ≡ column_length a.m a.b)
 passed c =
-    let lent = good c in
+    let lent = good c.before.before.before in
     (show_named _ _ _ _ _ _ _ lent c.if-columns-column.false c.if-absent-gt2.false, lent.numbers.column)
 
 -- the gaps are those below k + 2, of which the map has all
--- TURN: c.before.before.before is the place Else-absent-gt2
 found : (c : goal.After-gaps-gaps) → let a = c.args in
     Counts (a.k + 2) a.map.places c.gaps-gaps.result
-found c = let (p, _) = passed c in c.gaps-gaps.ensures.some (places_most p.shape)
+found c = let (p, _) = passed c.before.before.before in c.gaps-gaps.ensures.some (places_most p.shape)
 
 pub returns-in_default : goal.returns-in_default
 returns-in_default c =
@@ -37,37 +35,28 @@ returns-in_default c =
 pub overflow_add-columns : goal.overflow_add-columns
 overflow_add-columns c = omega (arith, places_most (good c).numbers.shape)
 
--- TURN: c.before is the place In-Good
 pub overflow_sub-absent : goal.overflow_sub-absent
-overflow_sub-absent c = let lent = good c in omega (arith, (absent_counted _ lent.truth _ lent.clear).0, places_most lent.numbers.shape)
+overflow_sub-absent c = let lent = good c.before in omega (arith, (absent_counted _ lent.truth _ lent.clear).0, places_most lent.numbers.shape)
 
--- TURN: c.before.before is the place In-Good
 pub returns-then-columns-column : goal.returns-then-columns-column
-returns-then-columns-column c = show_7 _ _ _ _ _ _ _ (good c) c.if-columns-column.true
+returns-then-columns-column c = show_7 _ _ _ _ _ _ _ (good c.before.before) c.if-columns-column.true
 
--- TURN: one.before.before is the place In-Good
 pub returns-then-absent-gt2 : goal.returns-then-absent-gt2
 returns-then-absent-gt2 c =
-    show_4 _ _ _ _ _ _ _ (good c) c.if-columns-column.false c.if-absent-gt2.true
+    show_4 _ _ _ _ _ _ _ (good c.before.before.before) c.if-columns-column.false c.if-absent-gt2.true
 
--- TURN: c.before.before is the place Else-absent-gt2
 pub overflow_mul-result : goal.overflow_mul-result
-overflow_mul-result c = let (p, e) = passed c in omega (arith, start_most p e)
+overflow_mul-result c = let (p, e) = passed c.before.before in omega (arith, start_most p e)
 
--- TURN: c.before.before is the place Else-absent-gt2
 pub returns-then-is_present : goal.returns-then-is_present
-returns-then-is_present c = let (p, e) = passed c in show_stripe p e (sym c.is_present.ensures ∙ c.if-is_present.true)
+returns-then-is_present c = let (p, e) = passed c.before.before in show_stripe p e (sym c.is_present.ensures ∙ c.if-is_present.true)
 
--- TURN: three.before.before is the place Else-absent-gt2
--- TURN: c.before.before is the place After-gaps-gaps
 pub returns-then-column-gaps : goal.returns-then-column-gaps
 returns-then-column-gaps c =
-    let (p, e) = passed c in
-    show_first p e (found c) (sym c.is_present.ensures ∙ c.if-is_present.false) c.if-column-gaps.true
+    let (p, e) = passed c.before.before.before.before.before in
+    show_first p e (found c.before.before) (sym c.is_present.ensures ∙ c.if-is_present.false) c.if-column-gaps.true
 
--- TURN: three.before.before is the place Else-absent-gt2
--- TURN: c.before.before is the place After-gaps-gaps
 pub returns : goal.returns
 returns c =
-    let (p, e) = passed c in
-    show_second p e (found c) (sym c.is_present.ensures ∙ c.if-is_present.false) c.if-column-gaps.false
+    let (p, e) = passed c.before.before.before.before.before in
+    show_second p e (found c.before.before) (sym c.is_present.ensures ∙ c.if-is_present.false) c.if-column-gaps.false

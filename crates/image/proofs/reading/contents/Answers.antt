@@ -22,9 +22,8 @@ header c =
 good : (c : goal.In-Good) → Shape c.two-m.result c.two-k.result c.two-b.result × (c.in-Good.column ≡ column_length c.two-m.result c.two-b.result)
 good c = judged_good _ _ _ c.judge-judged.result c.judge-judged.ensures c.in-Good.is
 
--- TURN: c.before.before.before.before is the place After-two-b
 head : (c : goal.In-Good) → Header c.args.image.now c.two-m.result c.two-k.result c.two-b.result
-head c = header c
+head c = header c.before.before.before.before
 
 pub returns-then-image-lt8 : goal.returns-then-image-lt8
 returns-then-image-lt8 c = refused_contents _ _ c.refused.ensures (contents_short _ c.if-image-lt8.true)
@@ -33,44 +32,31 @@ pub returns-then-two-ne0 : goal.returns-then-two-ne0
 returns-then-two-ne0 c =
     refused_contents _ _ c.refused-then-two-ne0.ensures (contents_fourth _ (λ e. c.if-two-ne0.true (c.two.ensures.0 ∙ e)))
 
--- TURN: at.before is the place After-two-b
 pub returns-in_default : goal.returns-in_default
 returns-in_default c =
-    refused_contents _ _ c.refused-in_default.ensures (contents_shape (header c) c.judge-judged.result c.judge-judged.ensures c.in_default.is c.refusal.ensures)
+    refused_contents _ _ c.refused-in_default.ensures (contents_shape (header c.before.before.before.before.before) c.judge-judged.result c.judge-judged.ensures c.in_default.is c.refusal.ensures)
 
--- TURN: at is the place In-Good
--- TURN: at is the place In-Good
--- TURN: at is the place In-Good
 pub returns-then-image-columns : goal.returns-then-image-columns
 returns-then-image-columns c =
-    let (shape, _) = good c in
-    refused_contents _ _ c.refused-then-image-columns.ensures (contents_ill (head c) shape (ill_short (head c) shape c.if-image-columns.true))
+    let (shape, _) = good c.before.before in
+    refused_contents _ _ c.refused-then-image-columns.ensures (contents_ill (head c.before.before) shape (ill_short (head c.before.before) shape c.if-image-columns.true))
 
--- TURN: c.before is the place In-Good
 pub of-table-requires : goal.of-table-requires
 of-table-requires c =
-    let (shape, column) = good c in
+    let (shape, column) = good c.before in
     (c.if-image-columns.false, places_most shape, rw column (column_most shape))
 
--- TURN: at is the place In-Good
--- TURN: at is the place In-Good
--- TURN: at is the place In-Good
 pub returns-then-not-table : goal.returns-then-not-table
 returns-then-not-table c =
-    let (shape, column) = good c in
-    refused_contents _ _ c.refused-then-not-table.ensures (contents_ill (head c) shape (ill_entry (head c) shape column c.of-table.ensures (not-true _ c.if-not-table.true)))
+    let (shape, column) = good c.before.before.before.before.before in
+    refused_contents _ _ c.refused-then-not-table.ensures (contents_ill (head c.before.before.before.before.before) shape (ill_entry (head c.before.before.before.before.before) shape column c.of-table.ensures (not-true _ c.if-not-table.true)))
 
--- TURN: at is the place In-Good
--- TURN: at is the place In-Good
--- TURN: at is the place In-Good
 pub returns-then-table-image : goal.returns-then-table-image
 returns-then-table-image c =
-    let (shape, column) = good c in
-    refused_contents _ _ c.refused-then-table-image.ensures (contents_ill (head c) shape (ill_length (head c) shape column c.of-table.ensures (not-false _ c.if-not-table.false) c.if-table-image.true))
+    let (shape, column) = good c.before.before.before.before.before.before.before in
+    refused_contents _ _ c.refused-then-table-image.ensures (contents_ill (head c.before.before.before.before.before.before.before) shape (ill_length (head c.before.before.before.before.before.before.before) shape column c.of-table.ensures (not-false _ c.if-not-table.false) c.if-table-image.true))
 
--- TURN: at is the place In-Good
--- TURN: at is the place In-Good
 pub returns : goal.returns
 returns c =
-    let (shape, column) = good c in
-    contents_good (head c) shape column c.of-table.ensures (λ x. omega (arith, c.type_inv.image x)) (not-false _ c.if-not-table.false) c.if-table-image.false c.of_places-map.ensures
+    let (shape, column) = good c.before.before.before.before.before.before.before.before in
+    contents_good (head c.before.before.before.before.before.before.before.before) shape column c.of-table.ensures (λ x. omega (arith, c.type_inv.image x)) (not-false _ c.if-not-table.false) c.if-table-image.false c.of_places-map.ensures

@@ -17,10 +17,9 @@ overflow_add-from c = omega (arith, body-ends c)
 pub slice_bounds-copy_into-end-then-is_present : goal.slice_bounds-copy_into-end-then-is_present
 slice_bounds-copy_into-end-then-is_present c = body-ends c
 
--- TURN: at is the place After-copy_into-arg-1
 pub returns-then-is_present : goal.returns-then-is_present
 returns-then-is_present c =
-    put_body_lem _ _ _ _ _ _ c.four-from.result (sym c.is_present.ensures ∙ c.if-is_present.true) c.four-from.ensures c.requires.1 (body-ends c) c.copy_into.ensures
+    put_body_lem _ _ _ _ _ _ c.four-from.result (sym c.is_present.ensures ∙ c.if-is_present.true) c.four-from.ensures c.requires.1 (body-ends c.before.before.before.before) c.copy_into.ensures
 
 pub returns-else-is_present : goal.returns-else-is_present
 returns-else-is_present c = put_nothing _ _ _ _ _ (sym c.is_present.ensures ∙ c.if-is_present.false)

@@ -10,7 +10,7 @@ use Rattle.image.proofs.reading.read.Goals as goal
 
 -- what is known where the contents say a shape
 good : (c : goal.In-Shape) → let n = c.answer-1.given.0 in
-    Good c.args.image.now n.0 n.1.0 n.1.1.0 c.contents-found.result.map.places
+    Good c.args.image.now c.in-Shape.m c.in-Shape.k c.in-Shape.b c.contents-found.result.map.places
 good c = good_contents _ c.contents-found.result c.contents-found.ensures c.in-Shape.is
 
 pub returns-in_default : goal.returns-in_default
@@ -29,23 +29,20 @@ overflow_mul-column c = omega (arith, column_most (good c).shape)
 pub overflow_mul-columns : goal.overflow_mul-columns
 unfolding column_length
 overflow_mul-columns c =
-    let g = good c in let a = c.answer-1.given.0 in omega (arith, parts_most g.shape refl (a.1.0 + 2) (places_most g.shape))
+    let g = good c in let a = c.answer-1.given.0 in omega (arith, parts_most g.shape refl (c.in-Shape.k + 2) (places_most g.shape))
 
--- TURN: c.before.before is the place In-Shape
 pub returns-then-stripe-columns : goal.returns-then-stripe-columns
 unfolding column_length stripe_length
-returns-then-stripe-columns c = read_length _ _ _ (good c) c.if-stripe-columns.true c.refused.ensures
+returns-then-stripe-columns c = read_length _ _ _ (good c.before.before) c.if-stripe-columns.true c.refused.ensures
 
--- TURN: one.before is the place In-Shape
 pub copy_bodies-requires : goal.copy_bodies-requires
 unfolding column_length
 copy_bodies-requires c =
-    let g = good c in
+    let g = good c.before.before.before in
     (formed_bodies g.shape _ _ g.formed, omega (arith, c.if-stripe-columns.false))
 
--- TURN: one.before is the place In-Shape
 pub returns : goal.returns
 unfolding column_length stripe_length
 returns c =
-    read_good _ _ _ (good c) c.in-Shape.is c.if-stripe-columns.false c.copy_bodies.ensures
+    read_good _ _ _ (good c.before.before.before.before.before.before) c.in-Shape.is c.if-stripe-columns.false c.copy_bodies.ensures
     (good_truth _ c.contents-found.result c.contents-found.ensures c.in-Shape.is)

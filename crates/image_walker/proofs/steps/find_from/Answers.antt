@@ -35,8 +35,7 @@ loop-t-preserved c =
       | inr (one, same) ↦ let absent = e ∙ one.left in (search rules, same ∙ before_absent _ _ _ _ c.loop-t.invariant.1 absent, absent_more _ _ _ c.loop-t.invariant.2 (λ _. absent))
     ]
 
--- TURN: at is the place At-loop-t
 pub returns : goal.returns
 returns c =
     let e : c.loop-t.t ≡ c.args.columns = omega arith in
-    (rw e c c.loop-t.invariant.2, refl)
+    (rw e c.before c.loop-t.invariant.2, refl)

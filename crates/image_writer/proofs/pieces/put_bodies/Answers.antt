@@ -22,17 +22,15 @@ put_body-next-requires c =
     let before = bodies_length a.map.places a.column a.stripe.now t (omega (arith, x, c.requires.1)) in
     (λ e. omega (arith, w.ends, w.size, before, c.requires.0, body_fits a.map.places a.column t a.columns c.loop-t-test.true e), omega (arith, x, c.requires.1))
 
--- TURN: c.before.before.put_body_lem.ensures not found
 pub loop-t-preserved : goal.loop-t-preserved
 unfolding joined
 loop-t-preserved c =
-    (search rules, rw add-one (wrote_then c.loop-t.invariant.1 c.put_body_lem.ensures))
+    (search rules, rw add-one (wrote_then c.loop-t.invariant.1 c.put_body-next.ensures))
 
 pub shape_of-image : goal.shape_of-image
 shape_of-image c = c.loop-t.invariant.1.size
 
--- TURN: at is the place At-loop-t
 pub returns : goal.returns
 returns c =
     let e : c.loop-t.t ≡ c.args.columns = omega arith in
-    rw e c c.loop-t.invariant.1
+    rw e c.before c.loop-t.invariant.1

@@ -61,8 +61,7 @@ loop-t-preserved c =
 pub shape_of-image : goal.shape_of-image
 shape_of-image c = c.loop-t.invariant.1.size
 
--- TURN: at is the place At-loop-t
 pub returns : goal.returns
 returns c =
     let e : c.loop-t.t ≡ c.args.columns = omega arith in
-    rw e c c.loop-t.invariant.1
+    rw e c.before c.loop-t.invariant.1

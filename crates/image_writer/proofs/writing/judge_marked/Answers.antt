@@ -37,36 +37,27 @@ returns-in_default c =
       column = c.judge_stripe-judged.ensures.column;
     }
 
--- TURN: c.before.before is the place In-Good
 pub returns-then-not-is_true : goal.returns-then-not-is_true
 returns-then-not-is_true c = record {
-  told = after c (gives_first (λ h. true≢false (sym (c.is_true.ensures.1 h) ∙ not-true _ c.if-not-is_true.true-raw)));
+  told = after c.before.before (gives_first (λ h. true≢false (sym (c.is_true.ensures.1 h) ∙ not-true _ c.if-not-is_true.true-raw)));
   column = tt;
 }
 
--- TURN: c.before.before is the place In-Good
 pub overflow_add-k : goal.overflow_add-k
-overflow_add-k c = omega (arith, places_most (good c).shape)
+overflow_add-k c = omega (arith, places_most (good c.before.before).shape)
 
--- TURN: one.before.before is the place In-Good
--- TURN: one is the place Else-not-is_true
--- TURN: one is the place Else-not-is_true
 pub returns-then-reaches : goal.returns-then-reaches
 returns-then-reaches c =
     let a = c.args in
     record {
-      told = after c (gives_next (λ lies. lies (truth c)) (gives_first ((from_highest a.map (truth c) (a.k + 2)).1 (c.reaches.ensures.0 c.if-reaches.true))));
+      told = after c.before.before.before.before (gives_next (λ lies. lies (truth c.before.before)) (gives_first ((from_highest a.map (truth c.before.before) (a.k + 2)).1 (c.reaches.ensures.0 c.if-reaches.true))));
       column = tt;
     }
 
--- TURN: told is the place In-Good
--- TURN: told is the place In-Good
--- TURN: one is the place Else-not-is_true
--- TURN: one is the place Else-not-is_true
 pub returns : goal.returns
 returns c =
     let a = c.args in
     record {
-      c = rw c.in-Good.is (after c (gives_next (λ lies. lies (truth c)) (gives_next (λ p. true≢false (sym (c.reaches.ensures.1 ((from_highest a.map (truth c) (a.k + 2)).0 p)) ∙ c.if-reaches.false)) refl)));
+      c.before.before.before.before = rw c.in-Good.is (after c.before.before.before.before (gives_next (λ lies. lies (truth c.before.before)) (gives_next (λ p. true≢false (sym (c.reaches.ensures.1 ((from_highest a.map (truth c.before.before) (a.k + 2)).0 p)) ∙ c.if-reaches.false)) refl)));
       column = c.judge_stripe-judged.ensures.column;
     }

@@ -26,9 +26,8 @@ present-most c =
     omega (arith, counted _ _ _ a.map _ g, count_most (a.k + 2) (present a.map.places), places_most g.shape)
 
 -- the image fits the buffer
--- TURN: c.before.before is the place In-Good
 room : (c : goal.Else-image-bodies) → let a = c.args in bodies_at a.k + present_below (a.k + 2) a.map.places * c.in-Good.column ≤ length a.image.now
-room c = let (g, _) = good c in rw (counted _ _ _ c.args.map _ g) at c.if-image-bodies.false
+room c = let (g, _) = good c.before.before in rw (counted _ _ _ c.args.map _ g) at c.if-image-bodies.false
 
 pub returns-in_default : goal.returns-in_default
 returns-in_default c =
@@ -43,41 +42,32 @@ overflow_mul-bodies c = omega (arith, places_most (good c).0.shape)
 pub overflow_add-bodies : goal.overflow_add-bodies
 overflow_add-bodies c = omega (arith, places_most (good c).0.shape)
 
--- TURN: at is the place In-Good
--- TURN: at is the place In-Good
 pub overflow_mul-map : goal.overflow_mul-map
-overflow_mul-map c = let (g, column) = good c in omega (arith, parts_most g.shape column c.args.map.present (present-most c))
+overflow_mul-map c = let (g, column) = good c.before in omega (arith, parts_most g.shape column c.args.map.present (present-most c.before))
 
--- TURN: at is the place In-Good
--- TURN: at is the place In-Good
 pub overflow_add-bodies-2 : goal.overflow_add-bodies-2
-overflow_add-bodies-2 c = let (g, column) = good c in omega (arith, places_most g.shape, parts_most g.shape column c.args.map.present (present-most c))
+overflow_add-bodies-2 c = let (g, column) = good c.before in omega (arith, places_most g.shape, parts_most g.shape column c.args.map.present (present-most c.before))
 
--- TURN: c.before.before is the place In-Good
 pub returns-then-image-bodies : goal.returns-then-image-bodies
-returns-then-image-bodies c = let (g, column) = good c in write_short _ _ _ _ _ _ g column c.if-image-bodies.true
+returns-then-image-bodies c = let (g, column) = good c.before.before in write_short _ _ _ _ _ _ g column c.if-image-bodies.true
 
--- TURN: c.before.before.before.before.before is the place Else-image-bodies
 pub put_entries-bodies_at-requires : goal.put_entries-bodies_at-requires
 put_entries-bodies_at-requires c =
-    let x = room c in
+    let x = room c.before.before.before.before.before in
     let w = c.put_numbers-entries_at.ensures in
     (omega (arith, x, w.ends, w.size), omega (arith, x, w.size))
 
--- TURN: one.before.before is the place In-Good
--- TURN: one is the place Else-image-bodies
 pub put_bodies-end-requires : goal.put_bodies-end-requires
 unfolding stripe_length
 put_bodies-end-requires c =
     let a = c.args in
-    let (g, column) = good c in
+    let (g, column) = good c.before.before.before.before.before.before.before.before.before.before.before in
     let first = c.put_numbers-entries_at.ensures in
     let second = c.put_entries-bodies_at.ensures in
     let most : (a.k + 2) * c.in-Good.column ≤ length a.stripe.now = rw column (omega (arith, g.stripe)) in
-    (omega (arith, room c, first.ends, first.size, second.ends, second.size, entries_length (present a.map.places) (λ t. bodies_at a.k + present_below t a.map.places * c.in-Good.column) (a.k + 2)), most)
+    (omega (arith, room c.before.before.before.before.before.before.before.before.before, first.ends, first.size, second.ends, second.size, entries_length (present a.map.places) (λ t. bodies_at a.k + present_below t a.map.places * c.in-Good.column) (a.k + 2)), most)
 
--- TURN: one.before.before is the place In-Good
 pub returns : goal.returns
 returns c =
-    let (g, column) = good c in
+    let (g, column) = good c.before.before.before.before.before.before.before.before.before.before.before.before.before.before in
     write_good _ _ _ _ _ _ g column _ _ c.if-image-bodies.false (wrote_then c.put_numbers-entries_at.ensures (wrote_then c.put_entries-bodies_at.ensures c.put_bodies-end.ensures))

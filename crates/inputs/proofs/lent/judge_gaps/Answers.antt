@@ -34,33 +34,25 @@ returns-in_default c =
 pub overflow_add-columns : goal.overflow_add-columns
 overflow_add-columns c = omega (arith, places_most (good c).numbers.shape)
 
--- TURN: c.before is the place In-Good
--- TURN: c.before is the place In-Good
 pub overflow_sub-absent : goal.overflow_sub-absent
-overflow_sub-absent c = omega (arith, (absent c).0, places_most (good c).numbers.shape)
+overflow_sub-absent c = omega (arith, (absent c.before).0, places_most (good c.before).numbers.shape)
 
--- TURN: p.before is the place In-Good
--- TURN: p.before is the place In-Good
 pub returns-then-absent-gt2 : goal.returns-then-absent-gt2
 returns-then-absent-gt2 c =
     let a = c.args in
-    let e = (absent c).1 in
+    let e = (absent c.before.before).1 in
     record {
       told = gives_after (lent_rules a.m a.k a.b a.map a.length a.held) (too_many_absent a.k a.map ∷ []) _
-          (good c).tests (gives_first (omega (arith, c.if-absent-gt2.true)));
+          (good c.before.before).tests (gives_first (omega (arith, c.if-absent-gt2.true)));
       good = tt;
     }
 
--- TURN: p.before is the place In-Good
--- TURN: p.before is the place In-Good
--- TURN: p.before is the place In-Good
--- TURN: p.before is the place In-Good
 pub returns : goal.returns
 returns c =
     let a = c.args in
-    let e = (absent c).1 in
+    let e = (absent c.before.before.before).1 in
     record {
       told = gives_after (lent_rules a.m a.k a.b a.map a.length a.held) (too_many_absent a.k a.map ∷ []) _
-          (good c).tests (gives_next (λ h. omega (arith, c.if-absent-gt2.false)) refl);
-      good = ((good c).numbers.column, c.gaps-gaps.ensures.some (places_most (good c).numbers.shape));
+          (good c.before.before.before).tests (gives_next (λ h. omega (arith, c.if-absent-gt2.false)) refl);
+      good = ((good c.before.before.before).numbers.column, c.gaps-gaps.ensures.some (places_most (good c.before.before.before).numbers.shape));
     }

@@ -20,10 +20,9 @@ use Rattle.inputs.proofs.lent.judge_lent.Goals as goal
 good : (c : goal.In-Good) → let a = c.args in Numbers a.m a.k a.b a.length c.in-Good.column
 good c = stripe_good _ _ _ _ c.judge_stripe-judged.result c.judge_stripe-judged.ensures c.in-Good.is
 
--- TURN: c.before is the place In-Good
 bench-right : (c : goal.Else-held-column) → let a = c.args in a.held ≡ bench_length a.m a.b
 unfolding bench_length
-bench-right c = c.if-held-column.false ∙ ap (λ (n : ℕ). 2 * n) (good c).column
+bench-right c = c.if-held-column.false ∙ ap (λ (n : ℕ). 2 * n) (good c.before).column
 
 -- the rules after those of the stripe
 abbrev last_rules : ℕ → ℕ → ℕ → Map → ℕ → List Rule
@@ -44,56 +43,45 @@ returns-in_default c =
 pub overflow_mul-column : goal.overflow_mul-column
 overflow_mul-column c = let n = good c in omega (arith, parts_most n.shape n.column 2 (omega arith))
 
--- TURN: c.before is the place In-Good
--- TURN: at is the place After-judge_stripe-judged
 pub returns-then-held-column : goal.returns-then-held-column
 unfolding bench_length
 returns-then-held-column c =
     let a = c.args in
     record {
       told = gives_after (stripe_rules a.m a.k a.b a.length) (last_rules a.m a.k a.b a.map a.held) _
-          (told_passed (stripe_rules a.m a.k a.b a.length) c.judge_stripe-judged.result c.judge_stripe-judged.ensures.told c.in-Good.is) (gives_first (rw (good c).column c c.if-held-column.true));
+          (told_passed (stripe_rules a.m a.k a.b a.length) c.judge_stripe-judged.result c.judge_stripe-judged.ensures.told c.in-Good.is) (gives_first (rw (good c.before).column c.before.before.before.before c.if-held-column.true));
       column = tt;
     }
 
--- TURN: one is the place Else-held-column
 pub returns-then-not-is_true : goal.returns-then-not-is_true
 returns-then-not-is_true c =
     let a = c.args in
     record {
       told = gives_after (stripe_rules a.m a.k a.b a.length) (last_rules a.m a.k a.b a.map a.held) _
           (told_passed (stripe_rules a.m a.k a.b a.length) c.judge_stripe-judged.result c.judge_stripe-judged.ensures.told c.in-Good.is)
-          (gives_next (λ n. n (bench-right c)) (gives_first (λ h. true≢false (sym (c.is_true.ensures.1 h) ∙ not-true _ c.if-not-is_true.true-raw))));
+          (gives_next (λ n. n (bench-right c.before.before)) (gives_first (λ h. true≢false (sym (c.is_true.ensures.1 h) ∙ not-true _ c.if-not-is_true.true-raw))));
       column = tt;
     }
 
--- TURN: c.before.before.before is the place In-Good
 pub overflow_add-k : goal.overflow_add-k
-overflow_add-k c = omega (arith, places_most (good c).shape)
+overflow_add-k c = omega (arith, places_most (good c.before.before.before).shape)
 
--- TURN: one is the place Else-held-column
--- TURN: two is the place Else-not-is_true
--- TURN: two is the place Else-not-is_true
 pub returns-then-reaches : goal.returns-then-reaches
 returns-then-reaches c =
     let a = c.args in
     record {
       told = gives_after (stripe_rules a.m a.k a.b a.length) (last_rules a.m a.k a.b a.map a.held) _
           (told_passed (stripe_rules a.m a.k a.b a.length) c.judge_stripe-judged.result c.judge_stripe-judged.ensures.told c.in-Good.is)
-          (gives_next (λ n. n (bench-right c)) (gives_next (λ lies. lies (truth c)) (gives_first ((from_highest a.map (truth c) (a.k + 2)).1 (c.reaches.ensures.0 c.if-reaches.true)))));
+          (gives_next (λ n. n (bench-right c.before.before.before.before)) (gives_next (λ lies. lies (truth c.before.before)) (gives_first ((from_highest a.map (truth c.before.before) (a.k + 2)).1 (c.reaches.ensures.0 c.if-reaches.true)))));
       column = tt;
     }
 
--- TURN: one is the place Else-held-column
--- TURN: two is the place Else-not-is_true
--- TURN: two is the place Else-not-is_true
--- TURN: one.before is the place In-Good
 pub returns : goal.returns
 returns c =
     let a = c.args in
     record {
       told = gives_after (stripe_rules a.m a.k a.b a.length) (last_rules a.m a.k a.b a.map a.held) _
           (told_passed (stripe_rules a.m a.k a.b a.length) c.judge_stripe-judged.result c.judge_stripe-judged.ensures.told c.in-Good.is)
-          (gives_next (λ n. n (bench-right c)) (gives_next (λ lies. lies (truth c)) (gives_next (λ p. true≢false (sym (c.reaches.ensures.1 ((from_highest a.map (truth c) (a.k + 2)).0 p)) ∙ c.if-reaches.false)) refl)));
-      column = (good c).column;
+          (gives_next (λ n. n (bench-right c.before.before.before.before)) (gives_next (λ lies. lies (truth c.before.before)) (gives_next (λ p. true≢false (sym (c.reaches.ensures.1 ((from_highest a.map (truth c.before.before) (a.k + 2)).0 p)) ∙ c.if-reaches.false)) refl)));
+      column = (good c.before.before.before.before.before).column;
     }

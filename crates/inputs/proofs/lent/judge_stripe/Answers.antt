@@ -28,18 +28,16 @@ overflow_add-k c = omega (arith, places_most (good c).0)
 pub overflow_mul-k : goal.overflow_mul-k
 overflow_mul-k c = let (s, e) = good c in omega (arith, parts_most s e (c.args.k + 2) (places_most s))
 
--- TURN: c.before is the place In-Good
 pub returns-then-length-k : goal.returns-then-length-k
 unfolding stripe_length
 returns-then-length-k c =
     let a = c.args in
-    let (s, e) = good c in
+    let (s, e) = good c.before in
     record { told = after_shape a.m a.k a.b (stripe_length_differs a.m a.k a.b a.length ∷ []) _ s (gives_first (rw e at c.if-length-k.true)); column = tt }
 
--- TURN: c.before is the place In-Good
 pub returns : goal.returns
 unfolding stripe_length
 returns c =
     let a = c.args in
-    let (s, e) = good c in
+    let (s, e) = good c.before in
     record { told = after_shape a.m a.k a.b (stripe_length_differs a.m a.k a.b a.length ∷ []) _ s (gives_next (λ n. n (c.if-length-k.false ∙ ap (λ (x : ℕ). (a.k + 2) * x) e)) refl); column = e }

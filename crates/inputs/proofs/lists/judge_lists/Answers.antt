@@ -20,29 +20,24 @@ returns-in_default c =
       column = c.judge_stripe-judged.ensures.column;
     }
 
--- TURN: c.before is the place In-Good
 pub returns-then-rows-columns : goal.returns-then-rows-columns
-returns-then-rows-columns c = let n = good c in lists_refused _ _ _ _ _ _ _ n.shape n.stripe (inl c.if-rows-columns.true)
+returns-then-rows-columns c = let n = good c.before in lists_refused _ _ _ _ _ _ _ n.shape n.stripe (inl c.if-rows-columns.true)
 
--- TURN: c.before.before is the place In-Good
 pub returns-then-columns-gt256 : goal.returns-then-columns-gt256
-returns-then-columns-gt256 c = let n = good c in lists_refused _ _ _ _ _ _ _ n.shape n.stripe (inr (inl c.if-columns-gt256.true))
+returns-then-columns-gt256 c = let n = good c.before.before in lists_refused _ _ _ _ _ _ _ n.shape n.stripe (inr (inl c.if-columns-gt256.true))
 
--- TURN: c.before.before is the place In-Good
 pub overflow_mul-columns : goal.overflow_mul-columns
 overflow_mul-columns c =
     let a = c.args in
     let most : a.columns * a.b ≤ 256 * a.b = mul-le-mul_right a.b (omega (arith, c.if-columns-gt256.false)) in
-    omega (arith, most, (good c).shape.short)
+    omega (arith, most, (good c.before.before).shape.short)
 
--- TURN: c.before.before.before is the place In-Good
 pub returns-then-cells-columns : goal.returns-then-cells-columns
-returns-then-cells-columns c = let n = good c in lists_refused _ _ _ _ _ _ _ n.shape n.stripe (inr (inr c.if-cells-columns.true))
+returns-then-cells-columns c = let n = good c.before.before.before in lists_refused _ _ _ _ _ _ _ n.shape n.stripe (inr (inr c.if-cells-columns.true))
 
--- TURN: c.before.before.before is the place In-Good
 pub returns : goal.returns
 returns c =
-    let n = good c in
+    let n = good c.before.before.before in
     record {
       told = rw c.in-Good.is (lists_passed _ _ _ _ _ _ _ n.shape n.stripe (record { even = c.if-rows-columns.false; few = omega (arith, c.if-columns-gt256.false); full = c.if-cells-columns.false }));
       column = c.judge_stripe-judged.ensures.column;

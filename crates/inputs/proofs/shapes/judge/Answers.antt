@@ -19,13 +19,11 @@ columns : (c : goal.Else-m-k) → let a = c.args in (1 ≤ a.k) × (a.k ≤ a.m)
 columns c = (omega (arith, c.if-k-eq0.false), ltb-false _ _ c.if-m-k.false-raw)
 
 -- and past the third the numbers are a shape
--- TURN: c.before.before is the place Else-m-k
--- TURN: c.before.before.before.before is the place Else-not-is_accepted
 good : (c : goal.Else-b-gt4096) → let a = c.args in Shape a.m a.k a.b
 good c =
-    let (real, few) = columns c in
+    let (real, few) = columns c.before.before in
     record {
-      value = prime c;
+      value = prime c.before.before.before.before;
       real = real;
       few = few;
       filled = omega (arith, c.if-b-eq0.false);
@@ -35,16 +33,13 @@ good c =
 pub returns-then-not-is_accepted : goal.returns-then-not-is_accepted
 returns-then-not-is_accepted c = judges_m _ _ _ (λ p. true≢false (sym (c.is_accepted.ensures ∙ prime_accepted _ p) ∙ not-true _ c.if-not-is_accepted.true-raw))
 
--- TURN: c.before is the place Else-not-is_accepted
 pub returns-then-k-eq0 : goal.returns-then-k-eq0
-returns-then-k-eq0 c = judges_k _ _ _ (prime c) (elim c.then-k-eq0.branch [ inl t ↦ inl t.taken | inr t ↦ inr (ltb-true _ _ t.1.taken) ])
+returns-then-k-eq0 c = judges_k _ _ _ (prime c.before) (elim c.then-k-eq0.branch [ inl t ↦ inl t.taken | inr t ↦ inr (ltb-true _ _ t.1.taken) ])
 
--- TURN: c.before is the place Else-m-k
--- TURN: c.before.before.before is the place Else-not-is_accepted
 pub returns-then-b-eq0 : goal.returns-then-b-eq0
 returns-then-b-eq0 c =
-    let (real, few) = columns c in
-    judges_b _ _ _ (prime c) real few (elim c.then-b-eq0.branch [ inl t ↦ inl t.taken | inr t ↦ inr (ltb-true _ _ t.1.taken) ])
+    let (real, few) = columns c.before in
+    judges_b _ _ _ (prime c.before.before.before) real few (elim c.then-b-eq0.branch [ inl t ↦ inl t.taken | inr t ↦ inr (ltb-true _ _ t.1.taken) ])
 
 pub overflow_sub-result : goal.overflow_sub-result
 overflow_sub-result c = omega (arith, (good c).value.prime.big)

@@ -11,38 +11,28 @@ take_lane-requires c =
     let p = c.requires in
     (p.0, omega (arith, p.1))
 
--- TURN: c.before.before.before.before.before.before.before.before.before.before.requires not found
--- TURN: c.before.before.before.before.take-lane.ensures.size not found
 pub xor_into-requires : goal.xor_into-requires
 xor_into-requires c =
-    let p = c.before.before.before.before.before.before.before.before.before.before.requires in
-    omega (arith, c.take-lane.ensures.size, p.0.room, p.2.rows)
+    let p = c.requires in
+    omega (arith, c.take_lane.ensures.size, p.0.room, p.2.rows)
 
--- TURN: c.before.before.before.before.before.before.before.before.before.before.before.before.before.before.before.requires not found
--- TURN: c.before.before.before.before.before.before.before.before.before.take-lane.ensures.size not found
 pub add_turned_lane-requires : goal.add_turned_lane-requires
 add_turned_lane-requires c =
-    let p = c.before.before.before.before.before.before.before.before.before.before.before.before.before.before.before.requires in
-    let x = c.take-lane.ensures.size in
+    let p = c.requires in
+    let x = c.take_lane.ensures.size in
     (omega (arith, x, p.0.room, p.2.diagonals), omega (arith, x, p.0.room, p.0.laid.few, p.1))
 
--- TURN: c.before.before.before.before.before.before.before.before.before.before.before.before.take-lane.ensures.size not found
 pub shape_of-x : goal.shape_of-x
-shape_of-x c = c.take-lane.ensures.size
+shape_of-x c = c.take_lane.ensures.size
 
--- TURN: c.before.before.before.before.before.before.before.xor-into.ensures.size not found
 pub shape_of-h : goal.shape_of-h
-shape_of-h c = c.xor-into.ensures.size
+shape_of-h c = c.xor_into.ensures.size
 
 pub shape_of-d : goal.shape_of-d
 shape_of-d c = c.add_turned_lane.ensures.size
 
--- TURN: c.before.before.before.before.before.before.before.before.before.before.before.before.before.before.before.before.before.before not found
--- TURN: c.before.before.before.before.before.before.before.before.before.before.before.before.take-lane not found
--- TURN: c.before.before.before.before.before.before.before.xor-into.ensures not found
 pub returns : goal.returns
 returns c =
-    let z = c.before.before.before.before.before.before.before.before.before.before.before.before.before.before.before.before.before.before in
-    let a = z.args in
-    let x = c.take-lane in
-    summed_next a.g.m (lane a.g.m a.g.b a.s.now a.l) a.t z.requires.2 x.new.0 (put_start x.ensures) (x.ensures.size ∙ z.requires.0.room) c.xor-into.ensures c.add_turned_lane.ensures
+    let a = c.args in
+    let x = c.take_lane in
+    summed_next a.g.m (lane a.g.m a.g.b a.s.now a.l) a.t c.requires.2 x.new.x (put_start x.ensures) (x.ensures.size ∙ c.requires.0.room) c.xor_into.ensures c.add_turned_lane.ensures

@@ -10,7 +10,6 @@ pub returns-then-count_present-present : goal.returns-then-count_present-present
 returns-then-count_present-present c = (λ e. absurd (true≢false (sym e)), λ h. absurd (c.if-count_present-present.true (c.count_present.ensures ∙ sym h.counted)))
 
 -- TURN: at.well-formed.0 not found
--- TURN: at is the place Start
 pub returns : goal.returns
 returns c =
     let map = c.args.self in
@@ -18,7 +17,7 @@ returns c =
       λ e. record {
         whole = whole map c.well-formed.0;
         counted = sym c.if-count_present-present.false ∙ c.count_present.ensures;
-        named = rw (eqb-true c.find_highest.result map.highest e) c found;
+        named = rw (eqb-true c.find_highest.result map.highest e) c.before.before.before.before found;
       },
       λ h. eq-eqb _ _ (highest_one map.places _ _ found h.named),
     )

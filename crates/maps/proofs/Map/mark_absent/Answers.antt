@@ -10,9 +10,8 @@ passes c = place_done _ _ c.judge_place.result c.judge_place.ensures c.in-Done.i
 pub without-requires : goal.without-requires
 without-requires c = place_passed _ _ (passes c)
 
--- TURN: c.before is the place In-Done
 pub returns-in-Done : goal.returns-in-Done
-returns-in-Done c = marks_passed _ _ _ _ (passes c) c.without.ensures
+returns-in-Done c = marks_passed _ _ _ _ (passes c.before) c.without.ensures
 
 pub returns-in-Refused : goal.returns-in-Refused
 returns-in-Refused c = marks_refused _ _ _ _ (place_refused _ _ c.judge_place.result c.judge_place.ensures c.in-Refused.is)

@@ -3,7 +3,6 @@ use Rattle.text.proofs.Writing.{wrote_then}
 use native.Mathlib.Omega.{arith}
 use Rattle.report.proofs.telling.put_refused.Goals as goal
 
--- TURN: at is the place After-number
 pub returns : goal.returns
 returns c =
-    (wrote_then c.put_shape-next.ensures.0 (rw c.number.ensures c c.put_answer.ensures.0), omega arith)
+    (wrote_then c.put_shape-next.ensures.0 (rw c.number.ensures c.before.before.before c.put_answer.ensures.0), omega arith)

@@ -8,19 +8,13 @@ use Rattle.report.proofs.Told.{told, told_fits, tellable, reports_start}
 use native.Mathlib.Omega.{arith}
 use Rattle.report.proofs.telling.report.Goals as goal
 
--- TURN: c.before.before.before.before.before.before.before.before.before.before.before.judge-image.result not found
--- TURN: c.before.before.before.before.before.before.before.before.before.before.before.judge-image.ensures not found
--- TURN: c.before.before.before.before.before.before.before.before.before.before.before.before.before.before.before.before.before.before.requires not found
 pub put_complete-requires : goal.put_complete-requires
 put_complete-requires c =
-    tellable (told c.judge-image.result c.in-Complete.shape c.judge-image.ensures (rw c.in-Complete.is refl)) _ c.before.before.before.before.before.before.before.before.before.before.before.before.before.before.before.before.before.before.requires (inl c.in-Complete.is)
+    tellable (told c.judge_image-judged.result c.in-Complete.shape c.judge_image-judged.ensures (rw c.in-Complete.is refl)) _ c.requires (inl c.in-Complete.is)
 
--- TURN: c.before.before.before.before.before.before.before.before.before.before.before.judge-image.result not found
--- TURN: c.before.before.before.before.before.before.before.before.before.before.before.judge-image.ensures not found
--- TURN: c.before.before.before.before.before.before.before.before.before.before.before.before.before.before.before.before.before.before.requires not found
 pub put_complete-requires-in-Blank : goal.put_complete-requires-in-Blank
 put_complete-requires-in-Blank c =
-    tellable (told c.judge-image.result c.in-Blank.shape c.judge-image.ensures (rw c.in-Blank.is refl)) _ c.before.before.before.before.before.before.before.before.before.before.before.before.before.before.before.before.before.before.requires (inr c.in-Blank.is)
+    tellable (told c.judge_image-judged.result c.in-Blank.shape c.judge_image-judged.ensures (rw c.in-Blank.is refl)) _ c.requires (inr c.in-Blank.is)
 
 pub put_refused-requires : goal.put_refused-requires
 put_refused-requires c =
@@ -30,28 +24,23 @@ pub put_refused-requires-in-Contradicted : goal.put_refused-requires-in-Contradi
 put_refused-requires-in-Contradicted c =
     let (m, k, b) = told_fits (told c.judge_image-judged.result c.in-Contradicted.shape c.judge_image-judged.ensures (rw c.in-Contradicted.is refl)) in (m, k, b, omega arith)
 
--- TURN: c.before.before.before.before.before.before.before.outcome.given not found
--- TURN: c.before.before.before.before.before.before.before.before.before.before.before.before.before.before.judge-image not found
 pub returns-in-Complete : goal.returns-in-Complete
 returns-in-Complete c =
     let w = c.put_complete.ensures in
-    let known = c.outcome.given in
-    let judged = c.judge-image in
-    reports_start {t = complete_text known.0.0 judged.result.map _ _ false} judged.result judged.ensures w.0 (omega (arith, w.0.size, w.1)) (rw known.1 refl)
+    let known = c.outcome-1.given in
+    let judged = c.judge_image-judged in
+    reports_start {t = complete_text c.in-Complete.shape judged.result.map _ _ false} judged.result judged.ensures w.0 (omega (arith, w.0.size, w.1)) (rw c.in-Complete.is refl)
 
--- TURN: c.before.before.before.before.before.before.before.outcome2.given not found
--- TURN: c.before.before.before.before.before.before.before.before.before.before.before.before.before.before.judge-image not found
 pub returns-in-Blank : goal.returns-in-Blank
 returns-in-Blank c =
     let w = c.put_complete-in-Blank.ensures in
-    let known = c.outcome2.given in
-    let judged = c.judge-image in
-    reports_start {t = complete_text known.0.0 judged.result.map _ _ true} judged.result judged.ensures w.0 (omega (arith, w.0.size, w.1)) (rw known.1 refl)
+    let known = c.outcome-in-Blank-1.given in
+    let judged = c.judge_image-judged in
+    reports_start {t = complete_text c.in-Blank.shape judged.result.map _ _ true} judged.result judged.ensures w.0 (omega (arith, w.0.size, w.1)) (rw c.in-Blank.is refl)
 
--- TURN: c.before.before.Put-refused.ensures not found
 pub returns-in-Ambiguous : goal.returns-in-Ambiguous
 returns-in-Ambiguous c =
-    let w = c.Put-refused.ensures in
+    let w = c.put_refused.ensures in
     reports_start c.judge_image-judged.result c.judge_image-judged.ensures w.0 (omega (arith, w.0.size, w.1)) (rw c.in-Ambiguous.is refl)
 
 pub returns-in-Contradicted : goal.returns-in-Contradicted

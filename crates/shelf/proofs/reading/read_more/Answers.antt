@@ -20,10 +20,8 @@ near : (done room long : ℕ) (got : ℤ) (r : Input) → long ≡ room → r �
 near done room long (pos n) r e h = rw h (nearer done room (min n long) (le_trans (min-le_right n long) (le_of_eq e)))
 near done room long (negsuc n) r e h = rw h tt
 
--- TURN: c.before.before.before.before.before.before.before.args not found
--- TURN: c.before.before.before.before.read not found
 pub returns : goal.returns
 returns c =
-    let a = c.before.before.before.before.before.before.before.args in
-    let read = c.read in
-    near a.done (length a.part.now) (length read.new.1.0) (to_z w64 (of_z w64 read.result)) c.after_read.result (search rules) c.after_read.ensures
+    let a = c.args in
+    let read = c.read-got in
+    near a.done (length a.part.now) (length read.new.buf) (to_z w64 (of_z w64 read.result)) c.after_read.result (search rules) c.after_read.ensures

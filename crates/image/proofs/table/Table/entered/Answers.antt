@@ -2,17 +2,14 @@
 use Rattle.image.proofs.Entering.{walked_present, walked_absent, walked_wrong}
 use Rattle.image.proofs.table.Table.entered.Goals as goal
 
--- TURN: at is the place After-state_of
 pub returns-in-Present : goal.returns-in-Present
 returns-in-Present c =
-    λ from w. walked_present _ from _ _ c.args.self w c.requires.1 (rw c.in-Present.is c c.state_of.ensures)
+    λ from w. walked_present _ from _ _ c.args.self w c.requires.1 (rw c.in-Present.is c.before.before c.state_of.ensures)
 
--- TURN: at is the place After-state_of
 pub returns-in-Absent : goal.returns-in-Absent
 returns-in-Absent c =
-    λ start w. walked_absent _ start _ _ c.args.self w (rw c.in-Absent.is c c.state_of.ensures)
+    λ start w. walked_absent _ start _ _ c.args.self w (rw c.in-Absent.is c.before.before c.state_of.ensures)
 
--- TURN: at is the place After-state_of
 pub returns-in-Wrong : goal.returns-in-Wrong
 returns-in-Wrong c =
-    λ start w. walked_wrong _ start _ _ c.args.self w _ (rw c.in-Wrong.is c c.state_of.ensures)
+    λ start w. walked_wrong _ start _ _ c.args.self w _ (rw c.in-Wrong.is c.before.before c.state_of.ensures)

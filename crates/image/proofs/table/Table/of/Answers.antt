@@ -18,8 +18,7 @@ entered-table-requires c =
 pub loop-t-preserved : goal.loop-t-preserved
 loop-t-preserved c = (search rules, c.entered-table.ensures _ c.loop-t.invariant.1)
 
--- TURN: at is the place At-loop-t
 pub returns : goal.returns
 returns c =
     let e : c.loop-t.t ≡ c.args.columns = omega arith in
-    rw e c c.loop-t.invariant.1
+    rw e c.before c.loop-t.invariant.1
