@@ -6,9 +6,8 @@ use Rattle.maps.proofs.Truth.{none_topped, topped_highest}
 use Rattle.maps.proofs.find_highest.Goals as goal
 
 -- the array has 129 places
--- TURN: c.well-formed.0.1.0.1 not found
 whole : (c : goal.Start) → length c.args.places ≡ 129
-whole c = c.well-formed.0.1.0.1
+whole c = c.well_formed.0.1.0.1
 
 pub returns-then-top-eq0 : goal.returns-then-top-eq0
 returns-then-top-eq0 c = none_topped _ (whole c.before.before) _ c.find_top-top.ensures c.if-top-eq0.true

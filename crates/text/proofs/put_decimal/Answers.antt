@@ -1,6 +1,6 @@
 -- `text::put_decimal` meets its contract: each arm writes as many digits as the number has.
 use mathlib.Core.Path.{◌∙◌, ap}
-use mathlib.Core.List.{◌∷◌}
+use mathlib.Core.List.{[], ◌∷◌}
 use Prim.Native.Nat.{ℕ}
 use Rattle.text.proofs.Writing.{wrote_decimal, decimal_1, decimal_2, decimal_3, decimal_4}
 use native.Mathlib.Omega.{arith}

@@ -1,6 +1,6 @@
 -- `text::put_hex_byte` meets its contract: a digit, and then a digit.
 use mathlib.Core.Path.{ap₂}
-use mathlib.Core.List.{◌∷◌}
+use mathlib.Core.List.{[], ◌∷◌}
 use Prim.Native.Nat.{ℕ}
 use Rattle.text.proofs.Writing.{wrote_then, wrote_same}
 use Rattle.text.proofs.put_hex_byte.Goals as goal

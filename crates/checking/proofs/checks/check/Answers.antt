@@ -1,5 +1,6 @@
 -- `checking::checks::check` meets its contract: the tests, whether the stripe is blank, and the counts of the loops below.
 use mathlib.Core.Path.{sym}
+use mathlib.Core.List.{[]}
 use lib.ListN.{length}
 use native.Mathlib.Omega.{arith}
 use Rattle.refusals.specs.Refusals.{pass, Gives}

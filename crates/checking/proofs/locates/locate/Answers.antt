@@ -1,6 +1,6 @@
 -- `checking::locates::locate` meets its contract: the tests, whether the stripe is blank, and what each suspect says of valid stripes.
 use mathlib.Core.Path.{subst}
-use mathlib.Core.List.{◌∷◌}
+use mathlib.Core.List.{[], ◌∷◌}
 use lib.ListN.{length}
 use native.Mathlib.Omega.{arith}
 use Rattle.parity.specs.Stripe.{Stripe}

@@ -1,5 +1,6 @@
 -- `evenodd::encodes::encode` meets its contract: the tests, and the stripe that the loops below leave.
 use mathlib.Core.Path.{refl, sym, ◌∙◌}
+use mathlib.Core.List.{[]}
 use native.Mathlib.Omega.{arith}
 use lib.ListN.{length}
 use Rattle.parity.proofs.Columns.{column_same}

@@ -1,4 +1,5 @@
 -- `evenodd::many_cells::changes` meets its contract: a law of changes for each way out, from what the tests on the way there said.
+use mathlib.Core.List.{[]}
 use native.Mathlib.Omega.{arith}
 use lib.ListN.{length}
 use Rattle.inputs.specs.Rules.{list_rules}

@@ -1,7 +1,7 @@
 -- `inputs::lent::judge_gaps` meets its contract: the verdict on what is lent is passed on, or the count is asked. That 4 is read from the count is a law of
 -- true maps.
 use mathlib.Core.Path.{◌≡◌, refl}
-use mathlib.Core.List.{◌∷◌}
+use mathlib.Core.List.{[], ◌∷◌}
 use Prim.Native.Nat.{◌+◌, ◌≤◌}
 use native.Mathlib.Omega.{arith}
 use Rattle.parity.specs.Presence.{absences}

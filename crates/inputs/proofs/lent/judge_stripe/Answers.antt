@@ -1,6 +1,6 @@
 -- `inputs::lent::judge_stripe` meets its contract: the verdict on the numbers is passed on, or the length is tested.
 use mathlib.Core.Path.{◌≡◌, refl, ap, ◌∙◌}
-use mathlib.Core.List.{◌∷◌}
+use mathlib.Core.List.{[], ◌∷◌}
 use Prim.Native.Nat.{ℕ, ◌+◌, ◌*◌}
 use native.Mathlib.Omega.{arith}
 use Rattle.parity.specs.Shape.{Shape, column_length, stripe_length}

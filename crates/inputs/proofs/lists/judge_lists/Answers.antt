@@ -1,6 +1,6 @@
 -- `inputs::lists::judge_lists` meets its contract: the verdict on the stripe is passed on, or the lengths of the lists are tested.
 use mathlib.Core.Logic.{inl, inr}
-use mathlib.Core.List.{◌∷◌}
+use mathlib.Core.List.{[], ◌∷◌}
 use Prim.Native.Nat.{◌*◌, ◌≤◌}
 use native.Mathlib.Nat.{mul-le-mul_right}
 use native.Mathlib.Omega.{arith}

@@ -6,9 +6,8 @@ use Rattle.maps.proofs.Absent.{past_all}
 use Rattle.maps.proofs.Presence.{whole}
 use Rattle.maps.proofs.Map.is_present.Goals as goal
 
--- TURN: c.before.well-formed.0 not found
 pub returns-then-place-ge129 : goal.returns-then-place-ge129
-returns-then-place-ge129 c = let map = c.args.t1 in sym (past_all map.places c.args.place (let w = whole map c.well-formed.0 in omega arith))
+returns-then-place-ge129 c = let map = c.args.t1 in sym (past_all map.places c.args.place (let w = whole map c.well_formed.0 in omega arith))
 
 pub returns : goal.returns
 unfolding present

@@ -9,13 +9,12 @@ use Rattle.maps.proofs.Map.is_true.Goals as goal
 pub returns-then-count_present-present : goal.returns-then-count_present-present
 returns-then-count_present-present c = (λ e. absurd (true≢false (sym e)), λ h. absurd (c.if-count_present-present.true (c.count_present.ensures ∙ sym h.counted)))
 
--- TURN: at.well-formed.0 not found
 pub returns : goal.returns
 returns c =
     let map = c.args.self in
     let found = c.find_highest.ensures in (
       λ e. record {
-        whole = whole map c.well-formed.0;
+        whole = whole map c.well_formed.0;
         counted = sym c.if-count_present-present.false ∙ c.count_present.ensures;
         named = rw (eqb-true c.find_highest.result map.highest e) c.before.before.before.before found;
       },
