@@ -34,7 +34,7 @@ use Rattle.maps.proofs.Truth.{true_one, not_lying, put_present, counted_put, cou
 use Rattle.maps.specs.contracts.Map.{the_row}
 
 pub whole : (map : Map) {vs : List Val} → Is the_row map vs → length map.places ≡ 129
-whole map good = sym (length-map map.places (λ x. x)) ∙ good.1.1.0.1.0.1
+whole map good = good.1.1.0.1.0.1
 
 pub new_absent : (n t : ℕ) → present (replicate n false) t ≡ false
 unfolding present

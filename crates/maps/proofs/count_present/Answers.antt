@@ -17,19 +17,19 @@ pub overflow_add-c : goal.overflow_add-c
 unfolding present
 overflow_add-c c =
     let y = c.loop-t in
-    omega (arith, y.invariant.1, count_most y.t (present c.args.t1), byte_most (present c.args.t1 y.t))
+    omega (arith, y.invariant.1, count_most y.t (present c.args.places), byte_most (present c.args.places y.t))
 
 pub loop-t-preserved : goal.loop-t-preserved
 unfolding present
 loop-t-preserved c =
     let y = c.loop-t in
-    (omega arith, ap (λ (n : ℕ). n + bool_byte (present c.args.t1 y.t)) y.invariant.1 ∙ present_more y.t c.args.t1)
+    (omega arith, ap (λ (n : ℕ). n + bool_byte (present c.args.places y.t)) y.invariant.1 ∙ present_more y.t c.args.places)
 
 pub overflow_cast-result : goal.overflow_cast-result
-overflow_cast-result c = omega (arith, c.loop-t.invariant.1, count_most c.loop-t.t (present c.args.t1))
+overflow_cast-result c = omega (arith, c.loop-t.invariant.1, count_most c.loop-t.t (present c.args.places))
 
 pub returns : goal.returns
 returns c =
     let y = c.loop-t in
     let e : y.t ≡ 129 = omega (arith, y.invariant.0, c.loop-t-test.false) in
-    y.invariant.1 ∙ ap (λ (t : ℕ). count t (present c.args.t1)) e
+    y.invariant.1 ∙ ap (λ (t : ℕ). count t (present c.args.places)) e

@@ -11,11 +11,11 @@ loop-t-init c = (search rules, counts_none _)
 
 pub counted-gaps-requires : goal.counted-gaps-requires
 counted-gaps-requires c =
-    omega (arith, c.loop-t.invariant.1.count, below_most c.args.t1 c.loop-t.t)
+    omega (arith, c.loop-t.invariant.1.count, below_most c.args.places c.loop-t.t)
 
 pub loop-t-preserved : goal.loop-t-preserved
 unfolding present
-loop-t-preserved c = (search rules, c.counted-gaps.ensures c.args.t1 c.loop-t.invariant.1 refl)
+loop-t-preserved c = (search rules, c.counted-gaps.ensures c.args.places c.loop-t.invariant.1 refl)
 
 pub returns : goal.returns
 returns c = let e : c.loop-t.t ≡ c.args.n = omega arith in rw e at c.loop-t.invariant.1

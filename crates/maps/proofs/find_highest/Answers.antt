@@ -5,12 +5,8 @@ use native.Mathlib.Omega.{arith}
 use Rattle.maps.proofs.Truth.{none_topped, topped_highest}
 use Rattle.maps.proofs.find_highest.Goals as goal
 
--- the array has 129 places
-whole : (c : goal.Start) → length c.args.places ≡ 129
-whole c = c.well_formed.0.1.0.1
-
 pub returns-then-top-eq0 : goal.returns-then-top-eq0
-returns-then-top-eq0 c = none_topped _ (whole c.before.before) _ c.find_top-top.ensures c.if-top-eq0.true
+returns-then-top-eq0 c = none_topped _ c.well_formed.0.1.0.1 _ c.find_top-top.ensures c.if-top-eq0.true
 
 pub returns : goal.returns
-returns c = topped_highest _ (whole c.before.before) _ c.find_top-top.ensures (omega arith)
+returns c = topped_highest _ c.well_formed.0.1.0.1 _ c.find_top-top.ensures (omega arith)

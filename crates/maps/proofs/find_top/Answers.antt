@@ -16,7 +16,7 @@ pub overflow_mul-places : goal.overflow_mul-places
 unfolding present
 overflow_mul-places c =
     let y = c.loop-t in
-    let most = mul-le-mul_right (y.t + 1) (byte_most (present c.args.t1 y.t)) in
+    let most = mul-le-mul_right (y.t + 1) (byte_most (present c.args.places y.t)) in
     omega (arith, most, one-mul (y.t + 1), y.invariant.0)
 
 pub loop-t-preserved : goal.loop-t-preserved

@@ -9,4 +9,4 @@ returns-in-Done c =
 
 pub returns-in-Refused : goal.returns-in-Refused
 returns-in-Refused c =
-    record { answer = Refused _; meets = rw c.in-Refused.is c.before.before c.change.ensures; number = c.number.ensures }
+    record { answer = Refused _; meets = rw c.in-Refused.is at c.change.ensures; number = c.number.ensures }

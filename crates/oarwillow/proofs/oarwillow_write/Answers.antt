@@ -9,7 +9,7 @@ returns-in-Length c =
       map = _;
       marked = c.of_bytes-map.ensures;
       answer = Length _;
-      meets = rw c.in-Length.is c.before c.write.ensures;
+      meets = rw c.in-Length.is at c.write.ensures;
       length = refl;
       number = refl;
     }
@@ -20,7 +20,7 @@ returns-in-Refused c =
       map = _;
       marked = c.of_bytes-map.ensures;
       answer = Refused _;
-      meets = rw c.in-Refused.is c.before.before c.write.ensures;
+      meets = rw c.in-Refused.is at c.write.ensures;
       length = refl;
       number = c.number.ensures;
     }

@@ -38,4 +38,4 @@ loop-t-preserved c =
 pub returns : goal.returns
 returns c =
     let e : c.loop-t.t ≡ c.args.columns = omega arith in
-    (rw e c.before c.loop-t.invariant.2, refl)
+    (rw e at c.loop-t.invariant.2, refl)

@@ -33,4 +33,4 @@ shape_of-image c = c.loop-t.invariant.1.size
 pub returns : goal.returns
 returns c =
     let e : c.loop-t.t ≡ c.args.columns = omega arith in
-    rw e c.before c.loop-t.invariant.1
+    rw e at c.loop-t.invariant.1

@@ -49,7 +49,7 @@ returns-then-held-column c =
     let a = c.args in
     record {
       told = gives_after (stripe_rules a.m a.k a.b a.length) (last_rules a.m a.k a.b a.map a.held) _
-          (told_passed (stripe_rules a.m a.k a.b a.length) c.judge_stripe-judged.result c.judge_stripe-judged.ensures.told c.in-Good.is) (gives_first (rw (good c.before).column c.before.before.before.before c.if-held-column.true));
+          (told_passed (stripe_rules a.m a.k a.b a.length) c.judge_stripe-judged.result c.judge_stripe-judged.ensures.told c.in-Good.is) (gives_first (rw (good c.before).column at c.if-held-column.true));
       column = tt;
     }
 

@@ -7,7 +7,7 @@ use Rattle.maps.proofs.Presence.{whole}
 use Rattle.maps.proofs.Map.is_present.Goals as goal
 
 pub returns-then-place-ge129 : goal.returns-then-place-ge129
-returns-then-place-ge129 c = let map = c.args.t1 in sym (past_all map.places c.args.place (let w = whole map c.well_formed.0 in omega arith))
+returns-then-place-ge129 c = let map = c.args.self in sym (past_all map.places c.args.place (let w = whole map c.well_formed.0 in omega arith))
 
 pub returns : goal.returns
 unfolding present

@@ -16,7 +16,7 @@ returns c =
       λ e. record {
         whole = whole map c.well_formed.0;
         counted = sym c.if-count_present-present.false ∙ c.count_present.ensures;
-        named = rw (eqb-true c.find_highest.result map.highest e) c.before.before.before.before found;
+        named = rw (eqb-true c.find_highest.result map.highest e) at found;
       },
       λ h. eq-eqb _ _ (highest_one map.places _ _ found h.named),
     )

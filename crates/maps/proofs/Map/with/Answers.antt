@@ -10,7 +10,7 @@ unfolding present
 returns-then-self-place c = marked_already _ _ _ c.requires.0 c.if-self-place.true
 
 pub overflow_add-self : goal.overflow_add-self
-overflow_add-self c = omega (arith, c.requires.0.counted, count_most 129 (present c.args.t1.places))
+overflow_add-self c = omega (arith, c.requires.0.counted, count_most 129 (present c.args.self.places))
 
 pub returns : goal.returns
 unfolding present

@@ -14,7 +14,7 @@ pub overflow_sub-self : goal.overflow_sub-self
 unfolding present
 overflow_sub-self c =
     let (h, l) = c.requires in
-    let one = counted_cleared c.args.t1.places c.args.place (let w = h.whole in omega arith) (not-false _ c.if-not-self-place.false-raw) l in
+    let one = counted_cleared c.args.self.places c.args.place (let w = h.whole in omega arith) (not-false _ c.if-not-self-place.false-raw) l in
     omega (arith, h.counted)
 
 pub returns-then-self-place : goal.returns-then-self-place

@@ -5,4 +5,4 @@ use Rattle.report.proofs.telling.put_refused.Goals as goal
 
 pub returns : goal.returns
 returns c =
-    (wrote_then c.put_shape-next.ensures.0 (rw c.number.ensures c.before.before.before c.put_answer.ensures.0), omega arith)
+    (wrote_then c.put_shape-next.ensures.0 (rw c.number.ensures at c.put_answer.ensures.0), omega arith)

@@ -21,4 +21,4 @@ loop-t-preserved c = (search rules, c.entered-table.ensures _ c.loop-t.invariant
 pub returns : goal.returns
 returns c =
     let e : c.loop-t.t ≡ c.args.columns = omega arith in
-    rw e c.before c.loop-t.invariant.1
+    rw e at c.loop-t.invariant.1
