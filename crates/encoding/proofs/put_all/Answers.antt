@@ -8,20 +8,21 @@ use Rattle.encoding.specs.Sums.{Reads, Summed}
 use Rattle.encoding.proofs.Values.{reads_part, summed_next}
 use native.Mathlib.Omega.{arith}
 use Rattle.encoding.proofs.put_all.Goals as goal
+use Rattle.encoding.proofs.put_all.Goals.{then-at-eq8, else-at-eq8}
 
 -- what the blocks left, by either arm
-blocks : (c : goal.Joined-at-eq8) → (c.if-at-eq8.x ≤ c.args.b)
+blocks : (c : goal.After-put_small-arg-1) → (c.if-at-eq8.x ≤ c.args.b)
     × Summed c.args.s.now c.if-at-eq8.s c.args.at.now c.args.seed c.args.to 0 c.if-at-eq8.x
 blocks c =
     let a = c.args in
     let s = a.s.now in
-    ⊎_elim
-    (λ w. rw w.6 (rw w.7 (
-      w.3.ensures.0,
-      subst (λ (x : List ℕ). Summed s w.3.last.0 x a.seed a.to 0 w.3.result) (take_all 8 a.at.now (omega (arith, w.0.taken))) w.3.ensures.1,
-    )))
-    (λ w. rw w.5 (rw w.6 w.2.ensures))
-    c.if-at-eq8.branch
+    elim c.if-at-eq8.branch [
+      | then-at-eq8 w ↦ rw w.x-is (rw w.s-is (
+        w.put_blocks-x.ensures.0,
+        subst (λ (x : List ℕ). Summed s w.put_blocks-x.new.s x a.seed a.to 0 w.put_blocks-x.result) (take_all 8 a.at.now (omega (arith, w.if-at-eq8.true))) w.put_blocks-x.ensures.1,
+      ))
+      | else-at-eq8 w ↦ rw w.x-is (rw w.s-is w.put_blocks-x-else-at-eq8.ensures)
+    ]
 
 pub put_blocks-x-requires : goal.put_blocks-x-requires
 put_blocks-x-requires c =
@@ -30,20 +31,20 @@ put_blocks-x-requires c =
 
 pub put_small-j-requires : goal.put_small-j-requires
 put_small-j-requires c =
-    let q = blocks c.before in
+    let q = blocks c in
     (q.0, reads_part c.requires (omega arith) q.1.size)
 
 pub put_rest-requires : goal.put_rest-requires
 put_rest-requires c =
     let r = c.put_small-j.ensures in
-    (r.1, r.2, reads_part c.requires (omega arith) (r.3.size ∙ (blocks c.before.before.before.before.before).1.size))
+    (r.1, r.2, reads_part c.requires (omega arith) (r.3.size ∙ (blocks (goal.at.put_rest-requires c).After-put_small-arg-1).1.size))
 
 pub shape_of-s : goal.shape_of-s
-shape_of-s c = c.put_rest.ensures.size ∙ c.put_small-j.ensures.3.size ∙ (blocks c.before.before.before.before.before.before.before.before).1.size
+shape_of-s c = c.put_rest.ensures.size ∙ c.put_small-j.ensures.3.size ∙ (blocks (goal.at.shape_of-s c).After-put_small-arg-1).1.size
 
 pub returns : goal.returns
 returns c =
     let p = c.requires in
-    let q = blocks c.before.before.before.before.before.before.before.before in
+    let q = blocks (goal.at.returns c).After-put_small-arg-1 in
     let r = c.put_small-j.ensures in
     summed_next p (omega arith) r.1 (omega arith) (summed_next p (omega arith) r.0 r.1 q.1 r.3) c.put_rest.ensures

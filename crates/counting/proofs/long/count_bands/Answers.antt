@@ -11,6 +11,7 @@ use Rattle.counting.proofs.Bands.{band_found}
 use borrow.Author.Rules.{rules}
 use native.Mathlib.Omega.{arith}
 use Rattle.counting.proofs.long.count_bands.Goals as goal
+use Rattle.counting.proofs.long.count_bands.Goals.{then-found-ne0+else-enough-count, else-found-ne0}
 
 pub nonzero_div-most : goal.nonzero_div-most
 nonzero_div-most c = omega (arith, c.requires.laid.sized.filled)
@@ -75,15 +76,15 @@ loop-first-preserved c =
     let v = c.grow_band in
     let r = c.count_cells-found in
     let f : ℕ → ℕ → ℕ = λ l d. get_or a.w.now (a.seed + l) 0 ⊕ test_line a.g a.s.now a.u d l in
-    let band = band_found y.first a.seed a.w.now y.w (λ l d. test_line a.g a.s.now a.u d l) v.ensures y.invariant.3 r.ensures in
-    let next = ⊎_elim
-    (λ x. found_as x.4 x.5 (found_after a.enough a.g.b f y.count y.last y.first y.invariant.4 n.result r.result.count r.result.last x.0.taken band))
-    (λ x. found_as x.1 x.2 (found_over a.enough a.g.b f y.count y.last y.first y.invariant.4 n.result r.result.count r.result.last x.0.left band)) c.if-found-ne0.branch in (
+    let band = band_found y.first a.seed a.w.now y.w (λ l d. test_line a.g a.s.now a.u d l) v.ensures y.invariant.3 r.ensures in (
       omega (arith, y.invariant.0, v.auto),
       omega (arith, y.invariant.1, v.ensures.size),
       omega (arith, n.ensures.2, y.invariant.2),
       λ l h. v.ensures.after (a.seed + l) (omega (arith, cells_room n.result a.g.b a.seed n.ensures.1)) ∙ y.invariant.3 l h,
-      next,
+      (elim c.if-found-ne0.branch [
+      | then-found-ne0+else-enough-count w ↦ found_as w.count-is w.last-is (found_after a.enough a.g.b f y.count y.last y.first y.invariant.4 n.result r.result.count r.result.last w.if-found-ne0.true band)
+      | else-found-ne0 w ↦ found_as w.count-is w.last-is (found_over a.enough a.g.b f y.count y.last y.first y.invariant.4 n.result r.result.count r.result.last w.if-found-ne0.false band)
+    ]),
     )
 
 pub shape_of-at : goal.shape_of-at

@@ -9,6 +9,7 @@ use Rattle.counting.proofs.Found.{seen, found_begin, found_same, found_more, fou
 use borrow.Author.Rules.{rules}
 use native.Mathlib.Omega.{arith}
 use Rattle.counting.proofs.long.count_folded.Goals as goal
+use Rattle.counting.proofs.long.count_folded.Goals.{then-fold_line-ne0+else-enough-count, else-fold_line-ne0}
 
 pub loop-d-init : goal.loop-d-init
 loop-d-init c = (search rules, search rules, search rules, found_begin _ _ _)
@@ -36,9 +37,10 @@ loop-d-preserved c =
     let r = c.fold_line in
     let f : ℕ → ℕ → ℕ = λ l d. get_or a.seed.now l 0 ⊕ test_line a.g a.s.now a.u d l in
     let e : length r.new.at ≡ length a.at.now = omega (arith, y.invariant.0, r.auto) in
-    ⊎_elim
-    (λ w. (e, y.invariant.1, omega arith, found_as w.2 w.3 (found_more a.enough a.g.b f y.count y.last y.d y.invariant.3 r.result r.ensures w.0.taken)))
-    (λ w. (e, y.invariant.1, omega arith, found_as w.1 w.2 (found_same a.enough a.g.b f y.count y.last y.d y.invariant.3 r.result r.ensures w.0.left))) c.if-fold_line-ne0.branch
+    (elim c.if-fold_line-ne0.branch [
+      | then-fold_line-ne0+else-enough-count w ↦ (e, y.invariant.1, omega arith, found_as w.count-is w.last-is (found_more a.enough a.g.b f y.count y.last y.d y.invariant.3 r.result r.ensures w.if-fold_line-ne0.true))
+      | else-fold_line-ne0 w ↦ (e, y.invariant.1, omega arith, found_as w.count-is w.last-is (found_same a.enough a.g.b f y.count y.last y.d y.invariant.3 r.result r.ensures w.if-fold_line-ne0.false))
+    ])
 
 pub shape_of-at : goal.shape_of-at
 shape_of-at c = c.loop-d.invariant.0

@@ -11,6 +11,7 @@ use Rattle.counting.proofs.Bands.{tells_part}
 use borrow.Author.Rules.{rules}
 use native.Mathlib.Omega.{arith}
 use Rattle.counting.proofs.testing.count_cells.Goals as goal
+use Rattle.counting.proofs.testing.count_cells.Goals.{then-any-ne0+else-enough-count, else-any-ne0}
 
 pub returns-then-any-eq0 : goal.returns-then-any-eq0
 returns-then-any-eq0 c =
@@ -54,9 +55,10 @@ loop-r-preserved c =
     let r = c.any-in-loop-r in
     let f : ℕ → ℕ → ℕ = λ l r. get_or a.w.now (r * a.b + l) 0 in
     let t = tells_part a.w.now r.result (y.r * a.b) a.b (omega (arith, c.requires, parts_end a.b c.loop-r-test.true)) r.ensures in
-    ⊎_elim
-    (λ w. (omega arith, found_as w.2 w.3 (found_more a.enough a.b f y.count y.last y.r y.invariant.1 r.result t w.0.taken)))
-    (λ w. (omega arith, found_as w.1 w.2 (found_same a.enough a.b f y.count y.last y.r y.invariant.1 r.result t w.0.left))) c.if-any-ne0.branch
+    (elim c.if-any-ne0.branch [
+      | then-any-ne0+else-enough-count w ↦ (omega arith, found_as w.count-is w.last-is (found_more a.enough a.b f y.count y.last y.r y.invariant.1 r.result t w.if-any-ne0.true))
+      | else-any-ne0 w ↦ (omega arith, found_as w.count-is w.last-is (found_same a.enough a.b f y.count y.last y.r y.invariant.1 r.result t w.if-any-ne0.false))
+    ])
 
 pub returns : goal.returns
 returns c =
