@@ -10,41 +10,37 @@ use native.Mathlib.Omega.{arith}
 use Rattle.encoding.proofs.put_all.Goals as goal
 use Rattle.encoding.proofs.put_all.Goals.{then-at-eq8, else-at-eq8}
 
--- what the blocks left, by either arm
-blocks : (c : goal.After-put_small-arg-1) → (c.if-at-eq8.x ≤ c.args.b)
-    × Summed c.args.s.now c.if-at-eq8.s c.args.at.now c.args.seed c.args.to 0 c.if-at-eq8.x
-blocks c =
-    let a = c.args in
-    let s = a.s.now in
-    elim c.if-at-eq8.branch [
-      | then-at-eq8 w ↦ rw w.x-is (rw w.s-is (
-        w.put_blocks-x.ensures.0,
-        subst (λ (x : List ℕ). Summed s w.put_blocks-x.new.s x a.seed a.to 0 w.put_blocks-x.result) (take_all 8 a.at.now (omega (arith, w.if-at-eq8.true))) w.put_blocks-x.ensures.1,
-      ))
-      | else-at-eq8 w ↦ rw w.x-is (rw w.s-is w.put_blocks-x-else-at-eq8.ensures)
-    ]
-
 pub put_blocks-x-requires : goal.put_blocks-x-requires
 put_blocks-x-requires c =
     let a = c.args in
     subst (λ (x : List ℕ). Reads x a.s.now a.b a.seed a.to) (sym (take_all 8 a.at.now (omega arith))) c.requires
 
 pub put_small-j-requires : goal.put_small-j-requires
-put_small-j-requires c =
-    let q = blocks c in
-    (q.0, reads_part c.requires (omega arith) q.1.size)
+put_small-j-requires c = (
+  elim c.if-at-eq8.branch [
+    | then-at-eq8 w ↦ rw w.x-is w.put_blocks-x.ensures.0
+    | else-at-eq8 w ↦ rw w.x-is w.put_blocks-x-else-at-eq8.ensures.0
+  ],
+  reads_part c.requires (omega arith) c.if-at-eq8.auto.s,
+)
 
 pub put_rest-requires : goal.put_rest-requires
 put_rest-requires c =
     let r = c.put_small-j.ensures in
-    (r.1, r.2, reads_part c.requires (omega arith) (r.3.size ∙ (blocks (goal.at.put_rest-requires c).After-put_small-arg-1).1.size))
-
-pub shape_of-s : goal.shape_of-s
-shape_of-s c = c.put_rest.ensures.size ∙ c.put_small-j.ensures.3.size ∙ (blocks (goal.at.shape_of-s c).After-put_small-arg-1).1.size
+    (r.1, r.2, reads_part c.requires (omega arith) (r.3.size ∙ c.if-at-eq8.auto.s))
 
 pub returns : goal.returns
 returns c =
+    let a = c.args in
+    let s = a.s.now in
     let p = c.requires in
-    let q = blocks (goal.at.returns c).After-put_small-arg-1 in
     let r = c.put_small-j.ensures in
+    -- what the blocks left, by either arm
+    let q : (c.if-at-eq8.x ≤ a.b) × Summed s c.if-at-eq8.s a.at.now a.seed a.to 0 c.if-at-eq8.x = elim c.if-at-eq8.branch [
+      | then-at-eq8 w ↦ rw w.x-is (rw w.s-is (
+        w.put_blocks-x.ensures.0,
+        subst (λ (x : List ℕ). Summed s w.put_blocks-x.new.s x a.seed a.to 0 w.put_blocks-x.result) (take_all 8 a.at.now (omega (arith, w.if-at-eq8.true))) w.put_blocks-x.ensures.1,
+      ))
+      | else-at-eq8 w ↦ rw w.x-is (rw w.s-is w.put_blocks-x-else-at-eq8.ensures)
+    ] in
     summed_next p (omega arith) r.1 (omega arith) (summed_next p (omega arith) r.0 r.1 q.1 r.3) c.put_rest.ensures

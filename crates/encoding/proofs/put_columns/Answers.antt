@@ -13,20 +13,6 @@ use borrow.Author.Rules.{rules}
 use native.Mathlib.Omega.{arith}
 use Rattle.encoding.proofs.put_columns.Goals as goal
 
--- what H and D are before the first column is added
-cleared : (c : goal.After-slice_known-3-1) → Grown true c.args.g 0 0 c.args.s.now c.spread.new.w 0 (c.args.g.m - 1)
-cleared c =
-    let a = c.args in
-    let p = c.requires in
-    let s = a.s.now in
-    let h = a.g.k * a.g.column in
-    let last = c.last_place in
-    let end = last_cell p.sized 0 in
-    let w = c.zero in
-    let u = c.spread in
-    spread_grown a.g p.sized s (put_mid h (last.result - h) s w.new.acc) u.new.w
-    (put_count (put_cleared s w.new.acc h last.result (omega (arith, last.ensures)) (omega (arith, last.ensures, end, p.whole)) w.ensures) (omega (arith, last.ensures))) u.ensures
-
 pub last_place-requires : goal.last_place-requires
 last_place-requires c = (c.requires.sized, c.requires.few)
 
@@ -46,17 +32,33 @@ pub loop-t-init : goal.loop-t-init
 loop-t-init c = (search rules, search rules, grown_begin c.args.g 0 c.spread.new.w)
 
 pub put_column-requires : goal.put_column-requires
-put_column-requires c = (laid_kept (c.loop-t.invariant.2.size ∙ (cleared (goal.at.put_column-requires c).After-slice_known-3-1).size) c.requires, omega arith)
+put_column-requires c =
+    let a = c.args in
+    let p = c.requires in
+    let s = a.s.now in
+    let h = a.g.k * a.g.column in
+    let last = c.last_place in
+    let w = c.zero in
+    let u = c.spread in
+    let begun = spread_grown a.g p.sized s (put_mid h (last.result - h) s w.new.acc) u.new.w
+    (put_count (put_cleared s w.new.acc h last.result (omega (arith, last.ensures)) (omega (arith, last.ensures, last_cell p.sized 0, p.whole)) w.ensures) (omega (arith, last.ensures))) u.ensures in
+    (laid_kept (c.loop-t.invariant.2.size ∙ begun.size) p, omega arith)
 
 pub loop-t-preserved : goal.loop-t-preserved
 loop-t-preserved c = (search rules, search rules, grown_join (omega arith) (omega arith) c.loop-t.invariant.2 c.put_column.ensures)
 
-pub shape_of-s : goal.shape_of-s
-shape_of-s c = c.loop-t.invariant.2.size ∙ (cleared (goal.at.shape_of-s c).After-slice_known-3-1).size
-
 pub returns : goal.returns
 returns c =
     let a = c.args in
+    let p = c.requires in
+    let s = a.s.now in
+    let h = a.g.k * a.g.column in
+    let last = c.last_place in
+    let w = c.zero in
+    let u = c.spread in
     let y = c.loop-t in
     let e : y.t ≡ a.g.k = omega arith in
-    subst (λ (n : ℕ). Grown true a.g 0 n a.s.now y.s 0 (a.g.m - 1)) e (grown_join (omega arith) y.invariant.1 (cleared (goal.at.returns c).After-slice_known-3-1) y.invariant.2)
+    -- what H and D are before the first column is added
+    let begun = spread_grown a.g p.sized s (put_mid h (last.result - h) s w.new.acc) u.new.w
+    (put_count (put_cleared s w.new.acc h last.result (omega (arith, last.ensures)) (omega (arith, last.ensures, last_cell p.sized 0, p.whole)) w.ensures) (omega (arith, last.ensures))) u.ensures in
+    subst (λ (n : ℕ). Grown true a.g 0 n a.s.now y.s 0 (a.g.m - 1)) e (grown_join (omega arith) y.invariant.1 begun y.invariant.2)

@@ -23,14 +23,14 @@ returns-then-not-is_zero c =
     let below : l.t < c.args.shape.k + 2 = omega arith in
     let (same, _) = held_shown c.args.stripe c.args.bench c.requires below c.show-column.result c.show-column.ensures in (
       λ e. absurd (true≢false (sym e)),
-      λ h. absurd (true≢false (sym (c.is_zero.ensures.1 (subst Zeros (sym same) (h.columns l.t below))) ∙ not-true _ c.if-not-is_zero.true-raw)),
+      λ h. absurd (true≢false (sym (c.is_zero.ensures.1 (subst Zeros (sym same) (h.columns l.t below))) ∙ c.if-not-is_zero.true)),
     )
 
 pub loop-t-preserved : goal.loop-t-preserved
 loop-t-preserved c =
     let l = c.loop-t in
     let (same, _) = held_shown c.args.stripe c.args.bench c.requires (omega arith) c.show-column.result c.show-column.ensures in
-    (search rules, search rules, below_more _ _ l.invariant.2 (subst Zeros same (c.is_zero.ensures.0 (not-false _ c.if-not-is_zero.false-raw))))
+    (search rules, search rules, below_more _ _ l.invariant.2 (subst Zeros same (c.is_zero.ensures.0 c.if-not-is_zero.false)))
 
 pub returns : goal.returns
 returns c = (λ _. record { columns = λ t h. c.loop-t.invariant.2 t (omega arith) }, λ _. refl)

@@ -8,19 +8,23 @@ use Rattle.inputs.proofs.Shape.{places_most, parts_most, judged_good}
 use Rattle.oarwillow.proofs.Lengths.{no_shape}
 use Rattle.oarwillow.proofs.oarwillow_stripe_length.Goals as goal
 
--- where the numbers are a shape
-good : (c : goal.In-Good) → let a = c.args in
-    Shape a.m a.k a.b × (c.in-Good.column ≡ column_length a.m a.b)
-good c = judged_good _ _ _ c.judge.result c.judge.ensures c.in-Good.is
-
 pub overflow_add-result : goal.overflow_add-result
-overflow_add-result c = omega (arith, places_most (good c).0)
+overflow_add-result c =
+    -- where the numbers are a shape
+    let good : Shape c.args.m c.args.k c.args.b × (c.in-Good.column ≡ column_length c.args.m c.args.b) = judged_good _ _ _ c.judge.result c.judge.ensures c.in-Good.is in
+    omega (arith, places_most good.0)
 
 pub overflow_mul-result : goal.overflow_mul-result
-overflow_mul-result c = let (s, e) = good c in omega (arith, parts_most s e (c.args.k + 2) (places_most s))
+overflow_mul-result c =
+    -- where the numbers are a shape
+    let good : Shape c.args.m c.args.k c.args.b × (c.in-Good.column ≡ column_length c.args.m c.args.b) = judged_good _ _ _ c.judge.result c.judge.ensures c.in-Good.is in
+    let (s, e) = good in omega (arith, parts_most s e (c.args.k + 2) (places_most s))
 
 pub returns-in-Good : goal.returns-in-Good
-returns-in-Good c = let (s, e) = good c in record { good = λ _. whole_stripe _ _ _ e; bad = λ no. absurd (no s) }
+returns-in-Good c =
+    -- where the numbers are a shape
+    let good : Shape c.args.m c.args.k c.args.b × (c.in-Good.column ≡ column_length c.args.m c.args.b) = judged_good _ _ _ c.judge.result c.judge.ensures c.in-Good.is in
+    let (s, e) = good in record { good = λ _. whole_stripe _ _ _ e; bad = λ no. absurd (no s) }
 
 pub returns-in-Refused : goal.returns-in-Refused
 returns-in-Refused c =

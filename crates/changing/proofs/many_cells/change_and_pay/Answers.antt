@@ -17,4 +17,4 @@ returns-then-not-is_zero c =
 pub returns-else-not-is_zero : goal.returns-else-not-is_zero
 returns-else-not-is_zero c =
     let items = c.change_items in
-    items.ensures.holds c.args.s.now items.new.s (paid_none c.args.s.now c.requires.2) (paid_none items.new.s (c.is_zero.ensures.0 (not-false _ c.if-not-is_zero.false-raw)))
+    items.ensures.holds c.args.s.now items.new.s (paid_none c.args.s.now c.requires.2) (paid_none items.new.s (c.is_zero.ensures.0 c.if-not-is_zero.false))

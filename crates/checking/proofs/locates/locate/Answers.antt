@@ -13,14 +13,6 @@ use Rattle.checking.proofs.Zeros.{zeros_tell, no_zeros_tell}
 use Rattle.checking.proofs.Located.{locate_refused, locate_blank, locate_intact, locate_column, locate_nobody}
 use Rattle.checking.proofs.locates.locate.Goals as goal
 
-good : (c : goal.In-Good) → let a = c.args in
-    Numbers a.m a.k a.b (length a.stripe.now) c.in-Good.column
-good c = stripe_good _ _ _ _ c.judge_stripe-judged.result c.judge_stripe-judged.ensures c.in-Good.is
-
--- a stripe, of the length that was tested
-stripe : (c : goal.In-Good) → let a = c.args in Stripe a.m a.k a.b a.stripe.now
-stripe c = record { whole = (good c).stripe; bytes = λ x. omega (arith, c.type_inv.stripe x) }
-
 pub returns-in_default : goal.returns-in_default
 returns-in_default c =
     let a = c.args in
@@ -28,34 +20,51 @@ returns-in_default c =
     c.judge_stripe-judged.result c.judge_stripe-judged.ensures.told c.in_default.is c.refusal.ensures)
 
 pub overflow_mul-k : goal.overflow_mul-k
-overflow_mul-k c = let n = good c in omega (arith, (parity_inside n.shape n.column n.stripe).1)
+overflow_mul-k c =
+    let good : Numbers c.args.m c.args.k c.args.b (length c.args.stripe.now) c.in-Good.column = stripe_good _ _ _ _ c.judge_stripe-judged.result c.judge_stripe-judged.ensures c.in-Good.is in
+    let n = good in omega (arith, (parity_inside n.shape n.column n.stripe).1)
 
 pub is_blank-requires : goal.is_blank-requires
-is_blank-requires c = let n = good c in (parity_inside n.shape n.column n.stripe).0
+is_blank-requires c =
+    let good : Numbers c.args.m c.args.k c.args.b (length c.args.stripe.now) c.in-Good.column = stripe_good _ _ _ _ c.judge_stripe-judged.result c.judge_stripe-judged.ensures c.in-Good.is in
+    let n = good in (parity_inside n.shape n.column n.stripe).0
 
 pub returns-then-is_blank : goal.returns-then-is_blank
 returns-then-is_blank c =
+    let good : Numbers c.args.m c.args.k c.args.b (length c.args.stripe.now) c.in-Good.column = stripe_good _ _ _ _ c.judge_stripe-judged.result c.judge_stripe-judged.ensures c.in-Good.is in
+    -- a stripe, of the length that was tested
+    let stripe : Stripe c.args.m c.args.k c.args.b c.args.stripe.now = record { whole = good.stripe; bytes = λ x. omega (arith, c.type_inv.stripe x) } in
     let a = c.args in
-    locate_blank a.m a.k a.b (good c.before.before).shape a.stripe.now (stripe c.before.before) (zeros_tell a.m a.k a.b a.stripe.now _ c.is_blank.ensures c.if-is_blank.true)
+    locate_blank a.m a.k a.b good.shape a.stripe.now stripe (zeros_tell a.m a.k a.b a.stripe.now _ c.is_blank.ensures c.if-is_blank.true)
 
 pub locate-requires : goal.locate-requires
 locate-requires c =
-    let n = good c.before.before in
+    let good : Numbers c.args.m c.args.k c.args.b (length c.args.stripe.now) c.in-Good.column = stripe_good _ _ _ _ c.judge_stripe-judged.result c.judge_stripe-judged.ensures c.in-Good.is in
+    let n = good in
     record { laid = laid n.shape n.column n.stripe; odd = n.shape.value.odd; prime = n.shape.value.prime }
 
 pub returns-in-Nothing : goal.returns-in-Nothing
 returns-in-Nothing c =
+    let good : Numbers c.args.m c.args.k c.args.b (length c.args.stripe.now) c.in-Good.column = stripe_good _ _ _ _ c.judge_stripe-judged.result c.judge_stripe-judged.ensures c.in-Good.is in
+    -- a stripe, of the length that was tested
+    let stripe : Stripe c.args.m c.args.k c.args.b c.args.stripe.now = record { whole = good.stripe; bytes = λ x. omega (arith, c.type_inv.stripe x) } in
     let a = c.args in
-    locate_intact a.m a.k a.b (good c.before.before.before.before.before).shape a.stripe.now (stripe c.before.before.before.before.before) (subst (Blamed a.m a.k a.b a.stripe.now) c.in-Nothing.is c.locate.ensures)
-    (no_zeros_tell a.m a.k a.b a.stripe.now _ c.is_blank.ensures (good c.before.before.before.before.before).shape (good c.before.before.before.before.before).stripe c.if-is_blank.false)
+    locate_intact a.m a.k a.b good.shape a.stripe.now stripe (subst (Blamed a.m a.k a.b a.stripe.now) c.in-Nothing.is c.locate.ensures)
+    (no_zeros_tell a.m a.k a.b a.stripe.now _ c.is_blank.ensures good.shape good.stripe c.if-is_blank.false)
 
 pub returns-in-Nobody : goal.returns-in-Nobody
 returns-in-Nobody c =
+    let good : Numbers c.args.m c.args.k c.args.b (length c.args.stripe.now) c.in-Good.column = stripe_good _ _ _ _ c.judge_stripe-judged.result c.judge_stripe-judged.ensures c.in-Good.is in
+    -- a stripe, of the length that was tested
+    let stripe : Stripe c.args.m c.args.k c.args.b c.args.stripe.now = record { whole = good.stripe; bytes = λ x. omega (arith, c.type_inv.stripe x) } in
     let a = c.args in
-    locate_nobody a.m a.k a.b (good c.before.before.before.before.before).shape a.stripe.now (stripe c.before.before.before.before.before) (subst (Blamed a.m a.k a.b a.stripe.now) c.in-Nobody.is c.locate.ensures).1
+    locate_nobody a.m a.k a.b good.shape a.stripe.now stripe (subst (Blamed a.m a.k a.b a.stripe.now) c.in-Nobody.is c.locate.ensures).1
 
 pub returns-in-Column : goal.returns-in-Column
 returns-in-Column c =
+    let good : Numbers c.args.m c.args.k c.args.b (length c.args.stripe.now) c.in-Good.column = stripe_good _ _ _ _ c.judge_stripe-judged.result c.judge_stripe-judged.ensures c.in-Good.is in
+    -- a stripe, of the length that was tested
+    let stripe : Stripe c.args.m c.args.k c.args.b c.args.stripe.now = record { whole = good.stripe; bytes = λ x. omega (arith, c.type_inv.stripe x) } in
     let a = c.args in
     let found = subst (Blamed a.m a.k a.b a.stripe.now) c.in-Column.is c.locate.ensures in
-    locate_column a.m a.k a.b (good c.before.before.before.before.before.before).shape a.stripe.now (stripe c.before.before.before.before.before.before) _ found.0 found.1 found.2
+    locate_column a.m a.k a.b good.shape a.stripe.now stripe _ found.0 found.1 found.2

@@ -11,21 +11,20 @@ use Rattle.inputs.proofs.Stripe.{stripe_passed}
 use Rattle.lines.proofs.Whole.{laid}
 use Rattle.evenodd.proofs.encodes.encode.Goals as goal
 
-good : (c : goal.In-Good) → let a = c.args in
-    Numbers a.m a.k a.b (length a.stripe.now) c.in-Good.column
-good c = stripe_good _ _ _ _ c.judge_stripe-judged.result c.judge_stripe-judged.ensures c.in-Good.is
-
 pub returns-in_default : goal.returns-in_default
 returns-in_default c =
     let a = c.args in
     record { told = told_refused (stripe_rules a.m a.k a.b (length a.stripe.now)) [] c.judge_stripe-judged.result c.judge_stripe-judged.ensures.told c.in_default.is c.refusal.ensures; written = refl }
 
 pub put_parity-requires : goal.put_parity-requires
-put_parity-requires c = let n = good c.before in laid n.shape n.column n.stripe
+put_parity-requires c =
+    let good : Numbers c.args.m c.args.k c.args.b (length c.args.stripe.now) c.in-Good.column = stripe_good _ _ _ _ c.judge_stripe-judged.result c.judge_stripe-judged.ensures c.in-Good.is in
+    let n = good in laid n.shape n.column n.stripe
 
 pub returns : goal.returns
 returns c =
-    let n = good c.before.before.before.before in
+    let good : Numbers c.args.m c.args.k c.args.b (length c.args.stripe.now) c.in-Good.column = stripe_good _ _ _ _ c.judge_stripe-judged.result c.judge_stripe-judged.ensures c.in-Good.is in
+    let n = good in
     let a = c.args in
     let r = c.put_parity.ensures in
     let after = c.put_parity.new.s in

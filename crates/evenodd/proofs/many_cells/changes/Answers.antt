@@ -9,10 +9,6 @@ use Rattle.lines.proofs.Whole.{laid}
 use Rattle.evenodd.proofs.ManyChanged.{lists_refused, one_refused, all_named, all_changed}
 use Rattle.evenodd.proofs.many_cells.changes.Goals as goal
 
-good : (c : goal.In-Good) → let a = c.args in
-    ListNumbers a.m a.k a.b (length a.stripe.now) (length a.columns.now) (length a.rows.now) (length a.cells.now) c.in-Good.column
-good c = lists_good _ _ _ _ _ _ _ c.judge_lists-judged.result c.judge_lists-judged.ensures c.in-Good.is
-
 pub returns-in_default : goal.returns-in_default
 returns-in_default c =
     let a = c.args in
@@ -20,18 +16,22 @@ returns-in_default c =
     (told_refused (list_rules a.m a.k a.b (length a.stripe.now) (length a.columns.now) (length a.rows.now) (length a.cells.now)) [] c.judge_lists-judged.result c.judge_lists-judged.ensures.told c.in_default.is c.refusal.ensures)
 
 pub judge_items-items-requires : goal.judge_items-items-requires
-judge_items-items-requires c = let n = good c in (omega (arith, n.numbers.shape.value.prime.big), n.lists.even)
+judge_items-items-requires c =
+    let good : ListNumbers c.args.m c.args.k c.args.b (length c.args.stripe.now) (length c.args.columns.now) (length c.args.rows.now) (length c.args.cells.now) c.in-Good.column = lists_good _ _ _ _ _ _ _ c.judge_lists-judged.result c.judge_lists-judged.ensures c.in-Good.is in
+    let n = good in (omega (arith, n.numbers.shape.value.prime.big), n.lists.even)
 
 pub returns-in-Refused : goal.returns-in-Refused
 returns-in-Refused c =
-    let n = good c.before.before.before.before in
+    let good : ListNumbers c.args.m c.args.k c.args.b (length c.args.stripe.now) (length c.args.columns.now) (length c.args.rows.now) (length c.args.cells.now) c.in-Good.column = lists_good _ _ _ _ _ _ _ c.judge_lists-judged.result c.judge_lists-judged.ensures c.in-Good.is in
+    let n = good in
     let a = c.args in
     one_refused a.m a.k a.b a.columns.now a.rows.now a.cells.now a.stripe.now n.numbers.shape n.numbers.stripe n.lists
     (items_refused a.m a.k a.columns.now a.rows.now c.judge_items-items.result c.judge_items-items.ensures c.in-Refused.is)
 
 pub change_cells-requires : goal.change_cells-requires
 change_cells-requires c =
-    let n = good c.before.before.before.before in
+    let good : ListNumbers c.args.m c.args.k c.args.b (length c.args.stripe.now) (length c.args.columns.now) (length c.args.rows.now) (length c.args.cells.now) c.in-Good.column = lists_good _ _ _ _ _ _ _ c.judge_lists-judged.result c.judge_lists-judged.ensures c.in-Good.is in
+    let n = good in
     let a = c.args in (
       laid n.numbers.shape n.numbers.column n.numbers.stripe,
       record {
@@ -45,7 +45,8 @@ change_cells-requires c =
 
 pub returns : goal.returns
 returns c =
-    let n = good c.before.before.before.before.before.before.before in
+    let good : ListNumbers c.args.m c.args.k c.args.b (length c.args.stripe.now) (length c.args.columns.now) (length c.args.rows.now) (length c.args.cells.now) c.in-Good.column = lists_good _ _ _ _ _ _ _ c.judge_lists-judged.result c.judge_lists-judged.ensures c.in-Good.is in
+    let n = good in
     let a = c.args in
     all_changed a.m a.k a.b a.columns.now a.rows.now a.cells.now a.stripe.now n.numbers.shape n.numbers.stripe n.lists
     (items_good a.m a.k a.columns.now a.rows.now c.judge_items-items.result c.judge_items-items.ensures c.in_default-items.is)

@@ -9,10 +9,6 @@ use Rattle.lines.proofs.Whole.{laid}
 use Rattle.evenodd.proofs.Changed.{change_refused, change_told, change_passed}
 use Rattle.evenodd.proofs.one_cell.change.Goals as goal
 
-good : (c : goal.In-Good) → let a = c.args in
-    Numbers a.m a.k a.b (length a.stripe.now) c.in-Good.length
-good c = stripe_good _ _ _ _ c.judge_stripe-judged.result c.judge_stripe-judged.ensures c.in-Good.is
-
 pub returns-in_default : goal.returns-in_default
 returns-in_default c =
     let a = c.args in
@@ -21,17 +17,21 @@ returns-in_default c =
 
 pub returns-then-k-column : goal.returns-then-k-column
 returns-then-k-column c =
-    let n = good c.before in
+    let good : Numbers c.args.m c.args.k c.args.b (length c.args.stripe.now) c.in-Good.length = stripe_good _ _ _ _ c.judge_stripe-judged.result c.judge_stripe-judged.ensures c.in-Good.is in
+    let n = good in
     let a = c.args in
     change_refused a.m a.k a.b a.column a.row a.cell.now a.stripe.now
     (change_told a.m a.k a.b a.column a.row a.cell.now a.stripe.now n.shape n.stripe (gives_first c.if-k-column.true))
 
 pub overflow_sub-m : goal.overflow_sub-m
-overflow_sub-m c = omega (arith, (good c.before).shape.value.prime.big)
+overflow_sub-m c =
+    let good : Numbers c.args.m c.args.k c.args.b (length c.args.stripe.now) c.in-Good.length = stripe_good _ _ _ _ c.judge_stripe-judged.result c.judge_stripe-judged.ensures c.in-Good.is in
+    omega (arith, good.shape.value.prime.big)
 
 pub returns-then-m-row : goal.returns-then-m-row
 returns-then-m-row c =
-    let n = good c.before.before in
+    let good : Numbers c.args.m c.args.k c.args.b (length c.args.stripe.now) c.in-Good.length = stripe_good _ _ _ _ c.judge_stripe-judged.result c.judge_stripe-judged.ensures c.in-Good.is in
+    let n = good in
     let a = c.args in
     change_refused a.m a.k a.b a.column a.row a.cell.now a.stripe.now
     (change_told a.m a.k a.b a.column a.row a.cell.now a.stripe.now n.shape n.stripe
@@ -39,7 +39,8 @@ returns-then-m-row c =
 
 pub returns-then-cell-b : goal.returns-then-cell-b
 returns-then-cell-b c =
-    let n = good c.before.before.before in
+    let good : Numbers c.args.m c.args.k c.args.b (length c.args.stripe.now) c.in-Good.length = stripe_good _ _ _ _ c.judge_stripe-judged.result c.judge_stripe-judged.ensures c.in-Good.is in
+    let n = good in
     let a = c.args in
     change_refused a.m a.k a.b a.column a.row a.cell.now a.stripe.now
     (change_told a.m a.k a.b a.column a.row a.cell.now a.stripe.now n.shape n.stripe
@@ -47,12 +48,14 @@ returns-then-cell-b c =
 
 pub change_cell-requires : goal.change_cell-requires
 change_cell-requires c =
-    let n = good c.before.before.before.before in
+    let good : Numbers c.args.m c.args.k c.args.b (length c.args.stripe.now) c.in-Good.length = stripe_good _ _ _ _ c.judge_stripe-judged.result c.judge_stripe-judged.ensures c.in-Good.is in
+    let n = good in
     (laid n.shape n.column n.stripe, omega (arith, c.if-k-column.false), omega (arith, c.if-m-row.false), c.if-cell-b.false)
 
 pub returns : goal.returns
 returns c =
-    let n = good c.before.before.before.before.before.before.before in
+    let good : Numbers c.args.m c.args.k c.args.b (length c.args.stripe.now) c.in-Good.length = stripe_good _ _ _ _ c.judge_stripe-judged.result c.judge_stripe-judged.ensures c.in-Good.is in
+    let n = good in
     let a = c.args in
     record {
       told = change_passed a.m a.k a.b a.column a.row a.cell.now a.stripe.now (record {

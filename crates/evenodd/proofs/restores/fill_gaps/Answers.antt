@@ -41,7 +41,7 @@ fits_but-requires c =
     laid p.shape p.column p.stripe
 
 pub returns-then-not-fits_but : goal.returns-then-not-fits_but
-returns-then-not-fits_but c = (most_one c.requires.few c.if-count-eq2.false, λ f. true≢false (sym (c.fits_but.ensures.1 f) ∙ was_false c.fits_but.result c.if-not-fits_but.true-raw), refl)
+returns-then-not-fits_but c = (most_one c.requires.few c.if-count-eq2.false, λ f. true≢false (sym (c.fits_but.ensures.1 f) ∙ c.if-not-fits_but.true), refl)
 
 pub restore_one-requires : goal.restore_one-requires
 restore_one-requires c =
@@ -55,7 +55,7 @@ shape_of-bench-then-count-eq1 c = c.restore_one.ensures.size
 pub returns-then-count-eq1 : goal.returns-then-count-eq1
 returns-then-count-eq1 c =
     let e = c.if-count-eq1.true in
-    record { fits = λ _. c.fits_but.ensures.0 (was_true c.fits_but.result c.if-not-fits_but.false-raw); none = λ z. absurd (omega arith); one = λ _. c.restore_one.ensures; two = λ z. absurd (omega arith) }
+    record { fits = λ _. c.fits_but.ensures.0 c.if-not-fits_but.false; none = λ z. absurd (omega arith); one = λ _. c.restore_one.ensures; two = λ z. absurd (omega arith) }
 
 pub returns : goal.returns
-returns c = record { fits = λ _. c.fits_but.ensures.0 (was_true c.fits_but.result c.if-not-fits_but.false-raw); none = λ _. refl; one = λ z. absurd (c.if-count-eq1.false z); two = λ z. absurd (c.if-count-eq2.false z) }
+returns c = record { fits = λ _. c.fits_but.ensures.0 c.if-not-fits_but.false; none = λ _. refl; one = λ z. absurd (c.if-count-eq1.false z); two = λ z. absurd (c.if-count-eq2.false z) }

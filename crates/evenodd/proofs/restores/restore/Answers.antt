@@ -8,14 +8,6 @@ use Rattle.evenodd.specs.Restores.{Restores}
 use Rattle.evenodd.proofs.Restored.{restore_refused, restore_gapped, restore_told}
 use Rattle.evenodd.proofs.restores.restore.Goals as goal
 
-good : (c : goal.In-Good) → let a = c.args in let x = c.judged-1.given.0 in
-    FewAbsent a.m a.k a.b (length a.stripe.now) a.map (length a.bench.now) c.in-Good.column c.in-Good.gaps
-good c = gaps_good _ _ _ _ _ _ c.judge_gaps-judged.result c.judge_gaps-judged.ensures c.in-Good.is
-
--- a stripe, of the length that was tested
-stripe : (c : goal.In-Good) → let a = c.args in Stripe a.m a.k a.b a.stripe.now
-stripe c = record { whole = (good c).lent.numbers.stripe; bytes = λ x. omega (arith, c.type_inv.stripe x) }
-
 pub returns-in_default : goal.returns-in_default
 returns-in_default c =
     let a = c.args in
@@ -23,12 +15,16 @@ returns-in_default c =
 
 pub fill_gaps-filled-requires : goal.fill_gaps-filled-requires
 fill_gaps-filled-requires c =
+    let good : FewAbsent c.args.m c.args.k c.args.b (length c.args.stripe.now) c.args.map (length c.args.bench.now) c.in-Good.column c.in-Good.gaps = gaps_good _ _ _ _ _ _ c.judge_gaps-judged.result c.judge_gaps-judged.ensures c.in-Good.is in
     let a = c.args in
-    restore_gapped a.m a.k a.b a.map a.stripe.now a.bench.now (good c.before)
+    restore_gapped a.m a.k a.b a.map a.stripe.now a.bench.now good
 
 pub returns : goal.returns
 returns c =
+    let good : FewAbsent c.args.m c.args.k c.args.b (length c.args.stripe.now) c.args.map (length c.args.bench.now) c.in-Good.column c.in-Good.gaps = gaps_good _ _ _ _ _ _ c.judge_gaps-judged.result c.judge_gaps-judged.ensures c.in-Good.is in
+    -- a stripe, of the length that was tested
+    let stripe : Stripe c.args.m c.args.k c.args.b c.args.stripe.now = record { whole = good.lent.numbers.stripe; bytes = λ x. omega (arith, c.type_inv.stripe x) } in
     let a = c.args in
     let after = c.fill_gaps-filled.new.bench in
     subst (Restores a.m a.k a.b a.map a.stripe.now a.bench.now after) (sym c.told.ensures)
-    (restore_told a.m a.k a.b a.map a.stripe.now a.bench.now (good c.before.before.before.before.before) (stripe c.before.before.before.before.before) after c.fill_gaps-filled.result c.fill_gaps-filled.ensures)
+    (restore_told a.m a.k a.b a.map a.stripe.now a.bench.now good stripe after c.fill_gaps-filled.result c.fill_gaps-filled.ensures)

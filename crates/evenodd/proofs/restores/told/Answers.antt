@@ -5,7 +5,7 @@ use Rattle.evenodd.specs.Restores.{restored_by}
 use Rattle.evenodd.proofs.restores.told.Goals as goal
 
 pub returns-then-not-filled : goal.returns-then-not-filled
-returns-then-not-filled c = let a = c.args in sym (ap (restored_by a.gaps) (not-true a.filled c.if-not-filled.true-raw))
+returns-then-not-filled c = let a = c.args in sym (ap (restored_by a.gaps) c.if-not-filled.true)
 
 pub returns : goal.returns
-returns c = let a = c.args in sym (ap (restored_by a.gaps) (not-false a.filled c.if-not-filled.false-raw))
+returns c = let a = c.args in sym (ap (restored_by a.gaps) c.if-not-filled.false)

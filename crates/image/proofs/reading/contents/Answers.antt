@@ -7,24 +7,6 @@ use Rattle.image.proofs.Verdicts.{Header, refused_contents, contents_short, cont
 use native.Mathlib.Omega.{arith}
 use Rattle.image.proofs.reading.contents.Goals as goal
 
--- the numbers at the image's start
-header : (c : goal.After-two-b) → Header c.args.image.now c.two-m.result c.two-k.result c.two-b.result
-header c =
-    record {
-      long = c.if-image-lt8.false;
-      first = c.two-m.ensures.0;
-      second = c.two-k.ensures.0;
-      third = c.two-b.ensures.0;
-      fourth = sym c.two.ensures.0 ∙ c.if-two-ne0.false;
-    }
-
--- past the shape check they are a shape
-good : (c : goal.In-Good) → Shape c.two-m.result c.two-k.result c.two-b.result × (c.in-Good.column ≡ column_length c.two-m.result c.two-b.result)
-good c = judged_good _ _ _ c.judge-judged.result c.judge-judged.ensures c.in-Good.is
-
-head : (c : goal.In-Good) → Header c.args.image.now c.two-m.result c.two-k.result c.two-b.result
-head c = header c.before.before.before.before
-
 pub returns-then-image-lt8 : goal.returns-then-image-lt8
 returns-then-image-lt8 c = refused_contents _ _ c.refused.ensures (contents_short _ c.if-image-lt8.true)
 
@@ -34,29 +16,83 @@ returns-then-two-ne0 c =
 
 pub returns-in_default : goal.returns-in_default
 returns-in_default c =
-    refused_contents _ _ c.refused-in_default.ensures (contents_shape (header c.before.before.before.before.before) c.judge-judged.result c.judge-judged.ensures c.in_default.is c.refusal.ensures)
+    -- the numbers at the image's start
+    let header : Header c.args.image.now c.two-m.result c.two-k.result c.two-b.result = record {
+      long = c.if-image-lt8.false;
+      first = c.two-m.ensures.0;
+      second = c.two-k.ensures.0;
+      third = c.two-b.ensures.0;
+      fourth = sym c.two.ensures.0 ∙ c.if-two-ne0.false;
+    } in
+    refused_contents _ _ c.refused-in_default.ensures (contents_shape header c.judge-judged.result c.judge-judged.ensures c.in_default.is c.refusal.ensures)
 
 pub returns-then-image-columns : goal.returns-then-image-columns
 returns-then-image-columns c =
-    let (shape, _) = good c.before.before in
-    refused_contents _ _ c.refused-then-image-columns.ensures (contents_ill (head c.before.before) shape (ill_short (head c.before.before) shape c.if-image-columns.true))
+    -- the numbers at the image's start
+    let header : Header c.args.image.now c.two-m.result c.two-k.result c.two-b.result = record {
+      long = c.if-image-lt8.false;
+      first = c.two-m.ensures.0;
+      second = c.two-k.ensures.0;
+      third = c.two-b.ensures.0;
+      fourth = sym c.two.ensures.0 ∙ c.if-two-ne0.false;
+    } in
+    -- past the shape check they are a shape
+    let good : Shape c.two-m.result c.two-k.result c.two-b.result × (c.in-Good.column ≡ column_length c.two-m.result c.two-b.result) = judged_good _ _ _ c.judge-judged.result c.judge-judged.ensures c.in-Good.is in
+    let head : Header c.args.image.now c.two-m.result c.two-k.result c.two-b.result = header in
+    let (shape, _) = good in
+    refused_contents _ _ c.refused-then-image-columns.ensures (contents_ill head shape (ill_short head shape c.if-image-columns.true))
 
 pub of-table-requires : goal.of-table-requires
 of-table-requires c =
-    let (shape, column) = good c.before in
+    -- past the shape check they are a shape
+    let good : Shape c.two-m.result c.two-k.result c.two-b.result × (c.in-Good.column ≡ column_length c.two-m.result c.two-b.result) = judged_good _ _ _ c.judge-judged.result c.judge-judged.ensures c.in-Good.is in
+    let (shape, column) = good in
     (c.if-image-columns.false, places_most shape, rw column (column_most shape))
 
 pub returns-then-not-table : goal.returns-then-not-table
 returns-then-not-table c =
-    let (shape, column) = good c.before.before.before.before.before in
-    refused_contents _ _ c.refused-then-not-table.ensures (contents_ill (head c.before.before.before.before.before) shape (ill_entry (head c.before.before.before.before.before) shape column c.of-table.ensures (not-true _ c.if-not-table.true)))
+    -- the numbers at the image's start
+    let header : Header c.args.image.now c.two-m.result c.two-k.result c.two-b.result = record {
+      long = c.if-image-lt8.false;
+      first = c.two-m.ensures.0;
+      second = c.two-k.ensures.0;
+      third = c.two-b.ensures.0;
+      fourth = sym c.two.ensures.0 ∙ c.if-two-ne0.false;
+    } in
+    -- past the shape check they are a shape
+    let good : Shape c.two-m.result c.two-k.result c.two-b.result × (c.in-Good.column ≡ column_length c.two-m.result c.two-b.result) = judged_good _ _ _ c.judge-judged.result c.judge-judged.ensures c.in-Good.is in
+    let head : Header c.args.image.now c.two-m.result c.two-k.result c.two-b.result = header in
+    let (shape, column) = good in
+    refused_contents _ _ c.refused-then-not-table.ensures (contents_ill head shape (ill_entry head shape column c.of-table.ensures (not-true _ c.if-not-table.true)))
 
 pub returns-then-table-image : goal.returns-then-table-image
 returns-then-table-image c =
-    let (shape, column) = good c.before.before.before.before.before.before.before in
-    refused_contents _ _ c.refused-then-table-image.ensures (contents_ill (head c.before.before.before.before.before.before.before) shape (ill_length (head c.before.before.before.before.before.before.before) shape column c.of-table.ensures (not-false _ c.if-not-table.false) c.if-table-image.true))
+    -- the numbers at the image's start
+    let header : Header c.args.image.now c.two-m.result c.two-k.result c.two-b.result = record {
+      long = c.if-image-lt8.false;
+      first = c.two-m.ensures.0;
+      second = c.two-k.ensures.0;
+      third = c.two-b.ensures.0;
+      fourth = sym c.two.ensures.0 ∙ c.if-two-ne0.false;
+    } in
+    -- past the shape check they are a shape
+    let good : Shape c.two-m.result c.two-k.result c.two-b.result × (c.in-Good.column ≡ column_length c.two-m.result c.two-b.result) = judged_good _ _ _ c.judge-judged.result c.judge-judged.ensures c.in-Good.is in
+    let head : Header c.args.image.now c.two-m.result c.two-k.result c.two-b.result = header in
+    let (shape, column) = good in
+    refused_contents _ _ c.refused-then-table-image.ensures (contents_ill head shape (ill_length head shape column c.of-table.ensures (not-false _ c.if-not-table.false) c.if-table-image.true))
 
 pub returns : goal.returns
 returns c =
-    let (shape, column) = good c.before.before.before.before.before.before.before.before in
-    contents_good (head c.before.before.before.before.before.before.before.before) shape column c.of-table.ensures (λ x. omega (arith, c.type_inv.image x)) (not-false _ c.if-not-table.false) c.if-table-image.false c.of_places-map.ensures
+    -- the numbers at the image's start
+    let header : Header c.args.image.now c.two-m.result c.two-k.result c.two-b.result = record {
+      long = c.if-image-lt8.false;
+      first = c.two-m.ensures.0;
+      second = c.two-k.ensures.0;
+      third = c.two-b.ensures.0;
+      fourth = sym c.two.ensures.0 ∙ c.if-two-ne0.false;
+    } in
+    -- past the shape check they are a shape
+    let good : Shape c.two-m.result c.two-k.result c.two-b.result × (c.in-Good.column ≡ column_length c.two-m.result c.two-b.result) = judged_good _ _ _ c.judge-judged.result c.judge-judged.ensures c.in-Good.is in
+    let head : Header c.args.image.now c.two-m.result c.two-k.result c.two-b.result = header in
+    let (shape, column) = good in
+    contents_good head shape column c.of-table.ensures (λ x. omega (arith, c.type_inv.image x)) (not-false _ c.if-not-table.false) c.if-table-image.false c.of_places-map.ensures

@@ -15,19 +15,11 @@ use Rattle.inputs.proofs.Tests.{passed_on, told_passed, Numbers, stripe_good}
 use Rattle.image_writer.specs.Writes.{marked_rules}
 use Rattle.image_writer.proofs.writing.judge_marked.Goals as goal
 
--- past the tests of the numbers and of the stripe's length
-good : (c : goal.In-Good) → let a = c.args in Numbers a.m a.k a.b a.length c.in-Good.column
-good c = stripe_good _ _ _ _ c.judge_stripe-judged.result c.judge_stripe-judged.ensures c.in-Good.is
-
 -- the map's rules give the verdict
 after : (c : goal.In-Good) {v : Verdict} → let a = c.args in Gives (map_rules a.k a.map) v → Gives (marked_rules a.m a.k a.b a.map a.length) v
 after c {v} =
     let a = c.args in
     gives_after (stripe_rules a.m a.k a.b a.length) (map_rules a.k a.map) v (told_passed (stripe_rules a.m a.k a.b a.length) c.judge_stripe-judged.result c.judge_stripe-judged.ensures.told c.in-Good.is)
-
--- and the map is true
-truth : (c : goal.Else-not-is_true) → TrueMap c.args.map
-truth c = c.is_true.ensures.0 (not-false _ c.if-not-is_true.false-raw)
 
 pub returns-in_default : goal.returns-in_default
 returns-in_default c =
@@ -39,25 +31,32 @@ returns-in_default c =
 
 pub returns-then-not-is_true : goal.returns-then-not-is_true
 returns-then-not-is_true c = record {
-  told = after c.before.before (gives_first (λ h. true≢false (sym (c.is_true.ensures.1 h) ∙ not-true _ c.if-not-is_true.true-raw)));
+  told = after (goal.at.returns-then-not-is_true c).In-Good (gives_first (λ h. true≢false (sym (c.is_true.ensures.1 h) ∙ c.if-not-is_true.true)));
   column = tt;
 }
 
 pub overflow_add-k : goal.overflow_add-k
-overflow_add-k c = omega (arith, places_most (good c.before.before).shape)
+overflow_add-k c =
+    -- past the tests of the numbers and of the stripe's length
+    let good : Numbers c.args.m c.args.k c.args.b c.args.length c.in-Good.column = stripe_good _ _ _ _ c.judge_stripe-judged.result c.judge_stripe-judged.ensures c.in-Good.is in
+    omega (arith, places_most good.shape)
 
 pub returns-then-reaches : goal.returns-then-reaches
 returns-then-reaches c =
+    -- and the map is true
+    let truth : TrueMap c.args.map = c.is_true.ensures.0 c.if-not-is_true.false in
     let a = c.args in
     record {
-      told = after c.before.before.before.before (gives_next (λ lies. lies (truth c.before.before)) (gives_first ((from_highest a.map (truth c.before.before) (a.k + 2)).1 (c.reaches.ensures.0 c.if-reaches.true))));
+      told = after (goal.at.returns-then-reaches c).In-Good (gives_next (λ lies. lies truth) (gives_first ((from_highest a.map truth (a.k + 2)).1 (c.reaches.ensures.0 c.if-reaches.true))));
       column = tt;
     }
 
 pub returns : goal.returns
 returns c =
+    -- and the map is true
+    let truth : TrueMap c.args.map = c.is_true.ensures.0 c.if-not-is_true.false in
     let a = c.args in
     record {
-      c.before.before.before.before = rw c.in-Good.is (after c.before.before.before.before (gives_next (λ lies. lies (truth c.before.before)) (gives_next (λ p. true≢false (sym (c.reaches.ensures.1 ((from_highest a.map (truth c.before.before) (a.k + 2)).0 p)) ∙ c.if-reaches.false)) refl)));
+      (goal.at.returns c).In-Good = rw c.in-Good.is (after (goal.at.returns c).In-Good (gives_next (λ lies. lies truth) (gives_next (λ p. true≢false (sym (c.reaches.ensures.1 ((from_highest a.map truth (a.k + 2)).0 p)) ∙ c.if-reaches.false)) refl)));
       column = c.judge_stripe-judged.ensures.column;
     }

@@ -13,61 +13,83 @@ use Rattle.image_writer.proofs.Joining.{entries_length}
 use Rattle.image_writer.proofs.Verdicts.{Marked, marked_good, counted, write_refused, write_short, write_good}
 use Rattle.image_writer.proofs.writing.write.Goals as goal
 
--- past the judgement
-good : (c : goal.In-Good) → let a = c.args in Marked a.m a.k a.b a.map (length a.stripe.now) × (c.in-Good.column ≡ column_length a.m a.b)
-good c = marked_good _ _ _ _ _ c.judge_marked-judged.result c.judge_marked-judged.ensures c.in-Good.is
-
--- as many columns are present as fit a stripe
-present-most : (c : goal.In-Good) → let a = c.args in a.map.present ≤ 129
-unfolding present_below
-present-most c =
-    let a = c.args in
-    let (g, _) = good c in
-    omega (arith, counted _ _ _ a.map _ g, count_most (a.k + 2) (present a.map.places), places_most g.shape)
-
--- the image fits the buffer
-room : (c : goal.Else-image-bodies) → let a = c.args in bodies_at a.k + present_below (a.k + 2) a.map.places * c.in-Good.column ≤ length a.image.now
-room c = let (g, _) = good c.before.before in rw (counted _ _ _ c.args.map _ g) at c.if-image-bodies.false
-
 pub returns-in_default : goal.returns-in_default
 returns-in_default c =
     write_refused _ _ _ _ _ _ c.judge_marked-judged.result c.judge_marked-judged.ensures c.in_default.is c.refusal.ensures
 
 pub overflow_add-columns : goal.overflow_add-columns
-overflow_add-columns c = omega (arith, places_most (good c).0.shape)
+overflow_add-columns c =
+    -- past the judgement
+    let good : Marked c.args.m c.args.k c.args.b c.args.map (length c.args.stripe.now) × (c.in-Good.column ≡ column_length c.args.m c.args.b) = marked_good _ _ _ _ _ c.judge_marked-judged.result c.judge_marked-judged.ensures c.in-Good.is in
+    omega (arith, places_most good.0.shape)
 
 pub overflow_mul-bodies : goal.overflow_mul-bodies
-overflow_mul-bodies c = omega (arith, places_most (good c).0.shape)
+overflow_mul-bodies c =
+    -- past the judgement
+    let good : Marked c.args.m c.args.k c.args.b c.args.map (length c.args.stripe.now) × (c.in-Good.column ≡ column_length c.args.m c.args.b) = marked_good _ _ _ _ _ c.judge_marked-judged.result c.judge_marked-judged.ensures c.in-Good.is in
+    omega (arith, places_most good.0.shape)
 
 pub overflow_add-bodies : goal.overflow_add-bodies
-overflow_add-bodies c = omega (arith, places_most (good c).0.shape)
+overflow_add-bodies c =
+    -- past the judgement
+    let good : Marked c.args.m c.args.k c.args.b c.args.map (length c.args.stripe.now) × (c.in-Good.column ≡ column_length c.args.m c.args.b) = marked_good _ _ _ _ _ c.judge_marked-judged.result c.judge_marked-judged.ensures c.in-Good.is in
+    omega (arith, places_most good.0.shape)
 
 pub overflow_mul-map : goal.overflow_mul-map
-overflow_mul-map c = let (g, column) = good c.before in omega (arith, parts_most g.shape column c.args.map.present (present-most c.before))
+unfolding present_below
+overflow_mul-map c =
+    -- past the judgement
+    let good : Marked c.args.m c.args.k c.args.b c.args.map (length c.args.stripe.now) × (c.in-Good.column ≡ column_length c.args.m c.args.b) = marked_good _ _ _ _ _ c.judge_marked-judged.result c.judge_marked-judged.ensures c.in-Good.is in
+    -- as many columns are present as fit a stripe
+    let present-most : c.args.map.present ≤ 129 = let a = c.args in
+    let (g, _) = good in
+    omega (arith, counted _ _ _ a.map _ g, count_most (a.k + 2) (present a.map.places), places_most g.shape) in
+    let (g, column) = good in omega (arith, parts_most g.shape column c.args.map.present present-most)
 
 pub overflow_add-bodies-2 : goal.overflow_add-bodies-2
-overflow_add-bodies-2 c = let (g, column) = good c.before in omega (arith, places_most g.shape, parts_most g.shape column c.args.map.present (present-most c.before))
+unfolding present_below
+overflow_add-bodies-2 c =
+    -- past the judgement
+    let good : Marked c.args.m c.args.k c.args.b c.args.map (length c.args.stripe.now) × (c.in-Good.column ≡ column_length c.args.m c.args.b) = marked_good _ _ _ _ _ c.judge_marked-judged.result c.judge_marked-judged.ensures c.in-Good.is in
+    -- as many columns are present as fit a stripe
+    let present-most : c.args.map.present ≤ 129 = let a = c.args in
+    let (g, _) = good in
+    omega (arith, counted _ _ _ a.map _ g, count_most (a.k + 2) (present a.map.places), places_most g.shape) in
+    let (g, column) = good in omega (arith, places_most g.shape, parts_most g.shape column c.args.map.present present-most)
 
 pub returns-then-image-bodies : goal.returns-then-image-bodies
-returns-then-image-bodies c = let (g, column) = good c.before.before in write_short _ _ _ _ _ _ g column c.if-image-bodies.true
+returns-then-image-bodies c =
+    -- past the judgement
+    let good : Marked c.args.m c.args.k c.args.b c.args.map (length c.args.stripe.now) × (c.in-Good.column ≡ column_length c.args.m c.args.b) = marked_good _ _ _ _ _ c.judge_marked-judged.result c.judge_marked-judged.ensures c.in-Good.is in
+    let (g, column) = good in write_short _ _ _ _ _ _ g column c.if-image-bodies.true
 
 pub put_entries-bodies_at-requires : goal.put_entries-bodies_at-requires
 put_entries-bodies_at-requires c =
-    let x = room c.before.before.before.before.before in
+    -- past the judgement
+    let good : Marked c.args.m c.args.k c.args.b c.args.map (length c.args.stripe.now) × (c.in-Good.column ≡ column_length c.args.m c.args.b) = marked_good _ _ _ _ _ c.judge_marked-judged.result c.judge_marked-judged.ensures c.in-Good.is in
+    -- the image fits the buffer
+    let room : bodies_at c.args.k + present_below (c.args.k + 2) c.args.map.places * c.in-Good.column ≤ length c.args.image.now = let (g, _) = good in rw (counted _ _ _ c.args.map _ g) at c.if-image-bodies.false in
+    let x = room in
     let w = c.put_numbers-entries_at.ensures in
     (omega (arith, x, w.ends, w.size), omega (arith, x, w.size))
 
 pub put_bodies-end-requires : goal.put_bodies-end-requires
 unfolding stripe_length
 put_bodies-end-requires c =
+    -- past the judgement
+    let good : Marked c.args.m c.args.k c.args.b c.args.map (length c.args.stripe.now) × (c.in-Good.column ≡ column_length c.args.m c.args.b) = marked_good _ _ _ _ _ c.judge_marked-judged.result c.judge_marked-judged.ensures c.in-Good.is in
+    -- the image fits the buffer
+    let room : bodies_at c.args.k + present_below (c.args.k + 2) c.args.map.places * c.in-Good.column ≤ length c.args.image.now = let (g, _) = good in rw (counted _ _ _ c.args.map _ g) at c.if-image-bodies.false in
     let a = c.args in
-    let (g, column) = good c.before.before.before.before.before.before.before.before.before.before.before in
+    let (g, column) = good in
     let first = c.put_numbers-entries_at.ensures in
     let second = c.put_entries-bodies_at.ensures in
     let most : (a.k + 2) * c.in-Good.column ≤ length a.stripe.now = rw column (omega (arith, g.stripe)) in
-    (omega (arith, room c.before.before.before.before.before.before.before.before.before, first.ends, first.size, second.ends, second.size, entries_length (present a.map.places) (λ t. bodies_at a.k + present_below t a.map.places * c.in-Good.column) (a.k + 2)), most)
+    (omega (arith, room, first.ends, first.size, second.ends, second.size, entries_length (present a.map.places) (λ t. bodies_at a.k + present_below t a.map.places * c.in-Good.column) (a.k + 2)), most)
 
 pub returns : goal.returns
 returns c =
-    let (g, column) = good c.before.before.before.before.before.before.before.before.before.before.before.before.before.before in
+    -- past the judgement
+    let good : Marked c.args.m c.args.k c.args.b c.args.map (length c.args.stripe.now) × (c.in-Good.column ≡ column_length c.args.m c.args.b) = marked_good _ _ _ _ _ c.judge_marked-judged.result c.judge_marked-judged.ensures c.in-Good.is in
+    let (g, column) = good in
     write_good _ _ _ _ _ _ g column _ _ c.if-image-bodies.false (wrote_then c.put_numbers-entries_at.ensures (wrote_then c.put_entries-bodies_at.ensures c.put_bodies-end.ensures))

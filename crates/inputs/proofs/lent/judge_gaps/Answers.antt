@@ -13,15 +13,6 @@ use Rattle.maps.proofs.Truth.{absent_counted}
 use Rattle.inputs.proofs.Tests.{told_refused, Lent, lent_good}
 use Rattle.inputs.proofs.lent.judge_gaps.Goals as goal
 
-good : (c : goal.In-Good) → let a = c.args in
-    Lent a.m a.k a.b a.length a.map a.held c.in-Good.column
-good c = lent_good _ _ _ _ _ _ c.judge_lent-judged.result c.judge_lent-judged.ensures c.in-Good.is
-
--- how many columns are absent, by the count
-absent : (c : goal.In-Good) → let a = c.args in
-    (a.map.present ≤ a.k + 2) × (absences a.k a.map.places ≡ absent_by_count a.k a.map)
-absent c = absent_counted _ (good c).truth _ (good c).clear
-
 pub returns-in_default : goal.returns-in_default
 returns-in_default c =
     let a = c.args in
@@ -32,27 +23,39 @@ returns-in_default c =
     }
 
 pub overflow_add-columns : goal.overflow_add-columns
-overflow_add-columns c = omega (arith, places_most (good c).numbers.shape)
+overflow_add-columns c =
+    let good : Lent c.args.m c.args.k c.args.b c.args.length c.args.map c.args.held c.in-Good.column = lent_good _ _ _ _ _ _ c.judge_lent-judged.result c.judge_lent-judged.ensures c.in-Good.is in
+    omega (arith, places_most good.numbers.shape)
 
 pub overflow_sub-absent : goal.overflow_sub-absent
-overflow_sub-absent c = omega (arith, (absent c.before).0, places_most (good c.before).numbers.shape)
+overflow_sub-absent c =
+    let good : Lent c.args.m c.args.k c.args.b c.args.length c.args.map c.args.held c.in-Good.column = lent_good _ _ _ _ _ _ c.judge_lent-judged.result c.judge_lent-judged.ensures c.in-Good.is in
+    -- how many columns are absent, by the count
+    let absent : (c.args.map.present ≤ c.args.k + 2) × (absences c.args.k c.args.map.places ≡ absent_by_count c.args.k c.args.map) = absent_counted _ good.truth _ good.clear in
+    omega (arith, absent.0, places_most good.numbers.shape)
 
 pub returns-then-absent-gt2 : goal.returns-then-absent-gt2
 returns-then-absent-gt2 c =
+    let good : Lent c.args.m c.args.k c.args.b c.args.length c.args.map c.args.held c.in-Good.column = lent_good _ _ _ _ _ _ c.judge_lent-judged.result c.judge_lent-judged.ensures c.in-Good.is in
+    -- how many columns are absent, by the count
+    let absent : (c.args.map.present ≤ c.args.k + 2) × (absences c.args.k c.args.map.places ≡ absent_by_count c.args.k c.args.map) = absent_counted _ good.truth _ good.clear in
     let a = c.args in
-    let e = (absent c.before.before).1 in
+    let e = absent.1 in
     record {
       told = gives_after (lent_rules a.m a.k a.b a.map a.length a.held) (too_many_absent a.k a.map ∷ []) _
-          (good c.before.before).tests (gives_first (omega (arith, c.if-absent-gt2.true)));
+          good.tests (gives_first (omega (arith, c.if-absent-gt2.true)));
       good = tt;
     }
 
 pub returns : goal.returns
 returns c =
+    let good : Lent c.args.m c.args.k c.args.b c.args.length c.args.map c.args.held c.in-Good.column = lent_good _ _ _ _ _ _ c.judge_lent-judged.result c.judge_lent-judged.ensures c.in-Good.is in
+    -- how many columns are absent, by the count
+    let absent : (c.args.map.present ≤ c.args.k + 2) × (absences c.args.k c.args.map.places ≡ absent_by_count c.args.k c.args.map) = absent_counted _ good.truth _ good.clear in
     let a = c.args in
-    let e = (absent c.before.before.before).1 in
+    let e = absent.1 in
     record {
       told = gives_after (lent_rules a.m a.k a.b a.map a.length a.held) (too_many_absent a.k a.map ∷ []) _
-          (good c.before.before.before).tests (gives_next (λ h. omega (arith, c.if-absent-gt2.false)) refl);
-      good = ((good c.before.before.before).numbers.column, c.gaps-gaps.ensures.some (places_most (good c.before.before.before).numbers.shape));
+          good.tests (gives_next (λ h. omega (arith, c.if-absent-gt2.false)) refl);
+      good = (good.numbers.column, c.gaps-gaps.ensures.some (places_most good.numbers.shape));
     }

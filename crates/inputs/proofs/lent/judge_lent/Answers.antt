@@ -17,20 +17,9 @@ use Rattle.maps.proofs.Truth.{from_highest}
 use Rattle.inputs.proofs.Tests.{passed_on, told_passed, Numbers, stripe_good}
 use Rattle.inputs.proofs.lent.judge_lent.Goals as goal
 
-good : (c : goal.In-Good) → let a = c.args in Numbers a.m a.k a.b a.length c.in-Good.column
-good c = stripe_good _ _ _ _ c.judge_stripe-judged.result c.judge_stripe-judged.ensures c.in-Good.is
-
-bench-right : (c : goal.Else-held-column) → let a = c.args in a.held ≡ bench_length a.m a.b
-unfolding bench_length
-bench-right c = c.if-held-column.false ∙ ap (λ (n : ℕ). 2 * n) (good c.before).column
-
 -- the rules after those of the stripe
 abbrev last_rules : ℕ → ℕ → ℕ → Map → ℕ → List Rule
 last_rules m k b map w = bench_length_differs m b w ∷ map_rules k map
-
--- past the tests of the lengths and of the map's truth
-truth : (c : goal.Else-not-is_true) → TrueMap c.args.map
-truth c = c.is_true.ensures.0 (not-false _ c.if-not-is_true.false-raw)
 
 pub returns-in_default : goal.returns-in_default
 returns-in_default c =
@@ -41,47 +30,65 @@ returns-in_default c =
     }
 
 pub overflow_mul-column : goal.overflow_mul-column
-overflow_mul-column c = let n = good c in omega (arith, parts_most n.shape n.column 2 (omega arith))
+overflow_mul-column c =
+    let good : Numbers c.args.m c.args.k c.args.b c.args.length c.in-Good.column = stripe_good _ _ _ _ c.judge_stripe-judged.result c.judge_stripe-judged.ensures c.in-Good.is in
+    let n = good in omega (arith, parts_most n.shape n.column 2 (omega arith))
 
 pub returns-then-held-column : goal.returns-then-held-column
 unfolding bench_length
 returns-then-held-column c =
+    let good : Numbers c.args.m c.args.k c.args.b c.args.length c.in-Good.column = stripe_good _ _ _ _ c.judge_stripe-judged.result c.judge_stripe-judged.ensures c.in-Good.is in
     let a = c.args in
     record {
       told = gives_after (stripe_rules a.m a.k a.b a.length) (last_rules a.m a.k a.b a.map a.held) _
-          (told_passed (stripe_rules a.m a.k a.b a.length) c.judge_stripe-judged.result c.judge_stripe-judged.ensures.told c.in-Good.is) (gives_first (rw (good c.before).column at c.if-held-column.true));
+          (told_passed (stripe_rules a.m a.k a.b a.length) c.judge_stripe-judged.result c.judge_stripe-judged.ensures.told c.in-Good.is) (gives_first (rw good.column at c.if-held-column.true));
       column = tt;
     }
 
 pub returns-then-not-is_true : goal.returns-then-not-is_true
+unfolding bench_length
 returns-then-not-is_true c =
+    let good : Numbers c.args.m c.args.k c.args.b c.args.length c.in-Good.column = stripe_good _ _ _ _ c.judge_stripe-judged.result c.judge_stripe-judged.ensures c.in-Good.is in
+    let bench-right : c.args.held ≡ bench_length c.args.m c.args.b = c.if-held-column.false ∙ ap (λ (n : ℕ). 2 * n) good.column in
     let a = c.args in
     record {
       told = gives_after (stripe_rules a.m a.k a.b a.length) (last_rules a.m a.k a.b a.map a.held) _
           (told_passed (stripe_rules a.m a.k a.b a.length) c.judge_stripe-judged.result c.judge_stripe-judged.ensures.told c.in-Good.is)
-          (gives_next (λ n. n (bench-right c.before.before)) (gives_first (λ h. true≢false (sym (c.is_true.ensures.1 h) ∙ not-true _ c.if-not-is_true.true-raw))));
+          (gives_next (λ n. n bench-right) (gives_first (λ h. true≢false (sym (c.is_true.ensures.1 h) ∙ c.if-not-is_true.true))));
       column = tt;
     }
 
 pub overflow_add-k : goal.overflow_add-k
-overflow_add-k c = omega (arith, places_most (good c.before.before.before).shape)
+overflow_add-k c =
+    let good : Numbers c.args.m c.args.k c.args.b c.args.length c.in-Good.column = stripe_good _ _ _ _ c.judge_stripe-judged.result c.judge_stripe-judged.ensures c.in-Good.is in
+    omega (arith, places_most good.shape)
 
 pub returns-then-reaches : goal.returns-then-reaches
+unfolding bench_length
 returns-then-reaches c =
+    let good : Numbers c.args.m c.args.k c.args.b c.args.length c.in-Good.column = stripe_good _ _ _ _ c.judge_stripe-judged.result c.judge_stripe-judged.ensures c.in-Good.is in
+    let bench-right : c.args.held ≡ bench_length c.args.m c.args.b = c.if-held-column.false ∙ ap (λ (n : ℕ). 2 * n) good.column in
+    -- past the tests of the lengths and of the map's truth
+    let truth : TrueMap c.args.map = c.is_true.ensures.0 c.if-not-is_true.false in
     let a = c.args in
     record {
       told = gives_after (stripe_rules a.m a.k a.b a.length) (last_rules a.m a.k a.b a.map a.held) _
           (told_passed (stripe_rules a.m a.k a.b a.length) c.judge_stripe-judged.result c.judge_stripe-judged.ensures.told c.in-Good.is)
-          (gives_next (λ n. n (bench-right c.before.before.before.before)) (gives_next (λ lies. lies (truth c.before.before)) (gives_first ((from_highest a.map (truth c.before.before) (a.k + 2)).1 (c.reaches.ensures.0 c.if-reaches.true)))));
+          (gives_next (λ n. n bench-right) (gives_next (λ lies. lies truth) (gives_first ((from_highest a.map truth (a.k + 2)).1 (c.reaches.ensures.0 c.if-reaches.true)))));
       column = tt;
     }
 
 pub returns : goal.returns
+unfolding bench_length
 returns c =
+    let good : Numbers c.args.m c.args.k c.args.b c.args.length c.in-Good.column = stripe_good _ _ _ _ c.judge_stripe-judged.result c.judge_stripe-judged.ensures c.in-Good.is in
+    let bench-right : c.args.held ≡ bench_length c.args.m c.args.b = c.if-held-column.false ∙ ap (λ (n : ℕ). 2 * n) good.column in
+    -- past the tests of the lengths and of the map's truth
+    let truth : TrueMap c.args.map = c.is_true.ensures.0 c.if-not-is_true.false in
     let a = c.args in
     record {
       told = gives_after (stripe_rules a.m a.k a.b a.length) (last_rules a.m a.k a.b a.map a.held) _
           (told_passed (stripe_rules a.m a.k a.b a.length) c.judge_stripe-judged.result c.judge_stripe-judged.ensures.told c.in-Good.is)
-          (gives_next (λ n. n (bench-right c.before.before.before.before)) (gives_next (λ lies. lies (truth c.before.before)) (gives_next (λ p. true≢false (sym (c.reaches.ensures.1 ((from_highest a.map (truth c.before.before) (a.k + 2)).0 p)) ∙ c.if-reaches.false)) refl)));
-      column = (good c.before.before.before.before.before).column;
+          (gives_next (λ n. n bench-right) (gives_next (λ lies. lies truth) (gives_next (λ p. true≢false (sym (c.reaches.ensures.1 ((from_highest a.map truth (a.k + 2)).0 p)) ∙ c.if-reaches.false)) refl)));
+      column = good.column;
     }

@@ -10,10 +10,6 @@ use Rattle.inputs.proofs.Shape.{places_most, parts_most, judged_good, after_shap
 use Rattle.inputs.proofs.Tests.{passed_on}
 use Rattle.inputs.proofs.lent.judge_stripe.Goals as goal
 
-good : (c : goal.In-Good) → let a = c.args in
-    Shape a.m a.k a.b × (c.in-Good.column ≡ column_length a.m a.b)
-good c = judged_good _ _ _ c.judge-judged.result c.judge-judged.ensures c.in-Good.is
-
 pub returns-in_default : goal.returns-in_default
 returns-in_default c =
     let a = c.args in
@@ -23,21 +19,27 @@ returns-in_default c =
     }
 
 pub overflow_add-k : goal.overflow_add-k
-overflow_add-k c = omega (arith, places_most (good c).0)
+overflow_add-k c =
+    let good : Shape c.args.m c.args.k c.args.b × (c.in-Good.column ≡ column_length c.args.m c.args.b) = judged_good _ _ _ c.judge-judged.result c.judge-judged.ensures c.in-Good.is in
+    omega (arith, places_most good.0)
 
 pub overflow_mul-k : goal.overflow_mul-k
-overflow_mul-k c = let (s, e) = good c in omega (arith, parts_most s e (c.args.k + 2) (places_most s))
+overflow_mul-k c =
+    let good : Shape c.args.m c.args.k c.args.b × (c.in-Good.column ≡ column_length c.args.m c.args.b) = judged_good _ _ _ c.judge-judged.result c.judge-judged.ensures c.in-Good.is in
+    let (s, e) = good in omega (arith, parts_most s e (c.args.k + 2) (places_most s))
 
 pub returns-then-length-k : goal.returns-then-length-k
 unfolding stripe_length
 returns-then-length-k c =
+    let good : Shape c.args.m c.args.k c.args.b × (c.in-Good.column ≡ column_length c.args.m c.args.b) = judged_good _ _ _ c.judge-judged.result c.judge-judged.ensures c.in-Good.is in
     let a = c.args in
-    let (s, e) = good c.before in
+    let (s, e) = good in
     record { told = after_shape a.m a.k a.b (stripe_length_differs a.m a.k a.b a.length ∷ []) _ s (gives_first (rw e at c.if-length-k.true)); column = tt }
 
 pub returns : goal.returns
 unfolding stripe_length
 returns c =
+    let good : Shape c.args.m c.args.k c.args.b × (c.in-Good.column ≡ column_length c.args.m c.args.b) = judged_good _ _ _ c.judge-judged.result c.judge-judged.ensures c.in-Good.is in
     let a = c.args in
-    let (s, e) = good c.before in
+    let (s, e) = good in
     record { told = after_shape a.m a.k a.b (stripe_length_differs a.m a.k a.b a.length ∷ []) _ s (gives_next (λ n. n (c.if-length-k.false ∙ ap (λ (x : ℕ). (a.k + 2) * x) e)) refl); column = e }

@@ -17,7 +17,7 @@ returns-then-not-is_of_data c =
     record {
       within = y.invariant.1;
       before = y.invariant.2;
-      there = λ _ inside. true≢false (sym (c.is_of_data.ensures.1 inside) ∙ not-true _ c.if-not-is_of_data.true-raw);
+      there = λ _ inside. true≢false (sym (c.is_of_data.ensures.1 inside) ∙ c.if-not-is_of_data.true);
     }
 
 pub loop-n-preserved : goal.loop-n-preserved
@@ -26,7 +26,7 @@ loop-n-preserved c =
     let y = c.loop-n in (
       refl,
       omega (arith, c.loop-n-test.true),
-      below_more (λ i. OfData a.m a.k (get_or a.columns.now i 0) (get_or a.rows.now i 0)) y.n y.invariant.2 (c.is_of_data.ensures.0 (not-false _ c.if-not-is_of_data.false-raw)),
+      below_more (λ i. OfData a.m a.k (get_or a.columns.now i 0) (get_or a.rows.now i 0)) y.n y.invariant.2 (c.is_of_data.ensures.0 c.if-not-is_of_data.false),
     )
 
 pub returns : goal.returns

@@ -10,44 +10,73 @@ use Rattle.parity.proofs.Shapes.{accepted_prime, prime_accepted}
 use Rattle.inputs.proofs.Shape.{column_most, judges_m, judges_k, judges_b, judges_good}
 use Rattle.inputs.proofs.shapes.judge.Goals as goal
 
--- past the first test m is right
-prime : (c : goal.Else-not-is_accepted) → OddPrime c.args.m
-prime c = accepted_prime _ (sym c.is_accepted.ensures ∙ not-false _ c.if-not-is_accepted.false-raw)
-
--- past the second so is k
-columns : (c : goal.Else-m-k) → let a = c.args in (1 ≤ a.k) × (a.k ≤ a.m)
-columns c = (omega (arith, c.if-k-eq0.false), ltb-false _ _ c.if-m-k.false-raw)
-
--- and past the third the numbers are a shape
-good : (c : goal.Else-b-gt4096) → let a = c.args in Shape a.m a.k a.b
-good c =
-    let (real, few) = columns c.before.before in
-    record {
-      value = prime c.before.before.before.before;
-      real = real;
-      few = few;
-      filled = omega (arith, c.if-b-eq0.false);
-      short = ltb-false _ _ c.if-b-gt4096.false-raw;
-    }
-
 pub returns-then-not-is_accepted : goal.returns-then-not-is_accepted
-returns-then-not-is_accepted c = judges_m _ _ _ (λ p. true≢false (sym (c.is_accepted.ensures ∙ prime_accepted _ p) ∙ not-true _ c.if-not-is_accepted.true-raw))
+returns-then-not-is_accepted c = judges_m _ _ _ (λ p. true≢false (sym (c.is_accepted.ensures ∙ prime_accepted _ p) ∙ c.if-not-is_accepted.true))
 
 pub returns-then-k-eq0 : goal.returns-then-k-eq0
-returns-then-k-eq0 c = judges_k _ _ _ (prime c.before) (elim c.then-k-eq0.branch [ inl t ↦ inl t.taken | inr t ↦ inr (ltb-true _ _ t.1.taken) ])
+returns-then-k-eq0 c =
+    -- past the first test m is right
+    let prime : OddPrime c.args.m = accepted_prime _ (sym c.is_accepted.ensures ∙ c.if-not-is_accepted.false) in
+    judges_k _ _ _ prime (elim c.then-k-eq0.either [ inl t ↦ inl t | inr t ↦ inr t.1 ])
 
 pub returns-then-b-eq0 : goal.returns-then-b-eq0
 returns-then-b-eq0 c =
-    let (real, few) = columns c.before in
-    judges_b _ _ _ (prime c.before.before.before) real few (elim c.then-b-eq0.branch [ inl t ↦ inl t.taken | inr t ↦ inr (ltb-true _ _ t.1.taken) ])
+    -- past the first test m is right
+    let prime : OddPrime c.args.m = accepted_prime _ (sym c.is_accepted.ensures ∙ c.if-not-is_accepted.false) in
+    -- past the second so is k
+    let columns : (1 ≤ c.args.k) × (c.args.k ≤ c.args.m) = (omega (arith, c.if-k-eq0.false), c.if-m-k.false) in
+    let (real, few) = columns in
+    judges_b _ _ _ prime real few (elim c.then-b-eq0.either [ inl t ↦ inl t | inr t ↦ inr t.1 ])
 
 pub overflow_sub-result : goal.overflow_sub-result
-overflow_sub-result c = omega (arith, (good c).value.prime.big)
+overflow_sub-result c =
+    -- past the first test m is right
+    let prime : OddPrime c.args.m = accepted_prime _ (sym c.is_accepted.ensures ∙ c.if-not-is_accepted.false) in
+    -- past the second so is k
+    let columns : (1 ≤ c.args.k) × (c.args.k ≤ c.args.m) = (omega (arith, c.if-k-eq0.false), c.if-m-k.false) in
+    -- and past the third the numbers are a shape
+    let good : Shape c.args.m c.args.k c.args.b = let (real, few) = columns in
+    record {
+      value = prime;
+      real = real;
+      few = few;
+      filled = omega (arith, c.if-b-eq0.false);
+      short = c.if-b-gt4096.false;
+    } in
+    omega (arith, good.value.prime.big)
 
 pub overflow_mul-result : goal.overflow_mul-result
 unfolding column_length
-overflow_mul-result c = omega (arith, column_most (good c))
+overflow_mul-result c =
+    -- past the first test m is right
+    let prime : OddPrime c.args.m = accepted_prime _ (sym c.is_accepted.ensures ∙ c.if-not-is_accepted.false) in
+    -- past the second so is k
+    let columns : (1 ≤ c.args.k) × (c.args.k ≤ c.args.m) = (omega (arith, c.if-k-eq0.false), c.if-m-k.false) in
+    -- and past the third the numbers are a shape
+    let good : Shape c.args.m c.args.k c.args.b = let (real, few) = columns in
+    record {
+      value = prime;
+      real = real;
+      few = few;
+      filled = omega (arith, c.if-b-eq0.false);
+      short = c.if-b-gt4096.false;
+    } in
+    omega (arith, column_most good)
 
 pub returns : goal.returns
 unfolding column_length
-returns c = judges_good _ _ _ (good c)
+returns c =
+    -- past the first test m is right
+    let prime : OddPrime c.args.m = accepted_prime _ (sym c.is_accepted.ensures ∙ c.if-not-is_accepted.false) in
+    -- past the second so is k
+    let columns : (1 ≤ c.args.k) × (c.args.k ≤ c.args.m) = (omega (arith, c.if-k-eq0.false), c.if-m-k.false) in
+    -- and past the third the numbers are a shape
+    let good : Shape c.args.m c.args.k c.args.b = let (real, few) = columns in
+    record {
+      value = prime;
+      real = real;
+      few = few;
+      filled = omega (arith, c.if-b-eq0.false);
+      short = c.if-b-gt4096.false;
+    } in
+    judges_good _ _ _ good

@@ -7,10 +7,10 @@ use Rattle.refusals.proofs.Rules.{gives_first, gives_next}
 use Rattle.maps.proofs.Map.judge_place.Goals as goal
 
 pub returns-then-not-is_true : goal.returns-then-not-is_true
-returns-then-not-is_true c = record { told = gives_first (λ h. true≢false (sym (c.is_true.ensures.1 h) ∙ not-true _ c.if-not-is_true.true-raw)) }
+returns-then-not-is_true c = record { told = gives_first (λ h. true≢false (sym (c.is_true.ensures.1 h) ∙ c.if-not-is_true.true)) }
 
 pub returns-then-place-ge129 : goal.returns-then-place-ge129
-returns-then-place-ge129 c = record { told = gives_next (λ lies. lies (c.is_true.ensures.0 (not-false _ c.if-not-is_true.false-raw))) (gives_first c.if-place-ge129.true) }
+returns-then-place-ge129 c = record { told = gives_next (λ lies. lies (c.is_true.ensures.0 c.if-not-is_true.false)) (gives_first c.if-place-ge129.true) }
 
 pub returns : goal.returns
-returns c = record { told = gives_next (λ lies. lies (c.is_true.ensures.0 (not-false _ c.if-not-is_true.false-raw))) (gives_next (λ h. omega arith) refl) }
+returns c = record { told = gives_next (λ lies. lies (c.is_true.ensures.0 c.if-not-is_true.false)) (gives_next (λ h. omega arith) refl) }

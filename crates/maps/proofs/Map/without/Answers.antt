@@ -8,24 +8,24 @@ use Rattle.maps.proofs.Map.without.Goals as goal
 
 pub returns-then-not-self-place : goal.returns-then-not-self-place
 unfolding present
-returns-then-not-self-place c = marked_already _ _ _ c.requires.0 (not-true _ c.if-not-self-place.true-raw)
+returns-then-not-self-place c = marked_already _ _ _ c.requires.0 c.if-not-self-place.true
 
 pub overflow_sub-self : goal.overflow_sub-self
 unfolding present
 overflow_sub-self c =
     let (h, l) = c.requires in
-    let one = counted_cleared c.args.self.places c.args.place (let w = h.whole in omega arith) (not-false _ c.if-not-self-place.false-raw) l in
+    let one = counted_cleared c.args.self.places c.args.place (let w = h.whole in omega arith) c.if-not-self-place.false l in
     omega (arith, h.counted)
 
 pub returns-then-self-place : goal.returns-then-self-place
 unfolding present
 returns-then-self-place c =
     let (h, l) = c.requires in
-    marked_cleared _ _ h l (not-false _ c.if-not-self-place.false-raw) _ c.find_highest.ensures
+    marked_cleared _ _ h l c.if-not-self-place.false _ c.find_highest.ensures
 
 pub returns-else-self-place : goal.returns-else-self-place
 unfolding present
 returns-else-self-place c =
     let (h, l) = c.requires in
-    let there = not-false _ c.if-not-self-place.false-raw in
+    let there = c.if-not-self-place.false in
     marked_cleared _ _ h l there _ (highest_left _ _ (let w = h.whole in omega arith) there _ h.named c.if-self-place.false)
