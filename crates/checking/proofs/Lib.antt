@@ -1,6 +1,6 @@
 -- Laws that belong to no one function.
 pub mod Parity
 pub mod Zeros
-pub mod Checked
-pub mod Located
+pub mod CheckLaws
+pub mod LocateLaws
 pub mod Determined

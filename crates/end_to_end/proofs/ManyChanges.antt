@@ -36,7 +36,7 @@ use Rattle.evenodd.specs.ChangesAll.{change_rules_of, ItemChanged, ChangesAll}
 use Rattle.evenodd.specs.Determined.{ChangesOne}
 use Rattle.end_to_end.specs.OneChange.{Edited}
 use Rattle.end_to_end.specs.ManyChanges.{ManyAsOneByOne, ItemAsChange, SevenOrEleven, NothingToChange, LastValueStands, ManyAsEncode, ManyKeepBroken, ManyKeepBlame}
-use Rattle.evenodd.proofs.Changed.{Fitting, change_given}
+use Rattle.evenodd.proofs.ChangeLaws.{Fitting, change_given}
 use Rattle.evenodd.proofs.Determined.{changes_one}
 use Rattle.end_to_end.proofs.OneChange.{done_of, done, left_stripe, same_broken, same_checks, same_blame}
 

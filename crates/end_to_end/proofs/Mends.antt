@@ -14,7 +14,7 @@ use Rattle.checking.specs.declared.locates.Located.{Located}
 use Rattle.checking.specs.declared.locates.Located.TheVariants as located
 use Rattle.checking.specs.Locates.{locate_rules, column_of, Locates, verdict_of}
 use Rattle.end_to_end.specs.Mends.{Mends, PairMends, MendsOne}
-use Rattle.checking.proofs.Located.{not_one, locate_passed}
+use Rattle.checking.proofs.LocateLaws.{not_one, locate_passed}
 use Rattle.parity.specs.Theorems.{OneWrong}
 use Rattle.end_to_end.proofs.OneWrong.{rewrite_named}
 

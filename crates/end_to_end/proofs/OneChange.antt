@@ -47,7 +47,7 @@ use Rattle.end_to_end.specs.OneOrNothing.{RestoreGivesBack}
 use Rattle.end_to_end.specs.OneChange.{Edited, SameBroken, ChangeAdds, ChangeAsEncode, ChangeKeepsBroken, ChangeKeepsBlame, ChangeBack, ChangesCommute, ChangeAgain, ChangeWhileAbsent}
 use Rattle.end_to_end.proofs.OneOrNothing.{restore_gives_back}
 use Rattle.end_to_end.proofs.OneWrong.{rewrite_leaves}
-use Rattle.evenodd.proofs.Changed.{Fitting, change_given, change_passed}
+use Rattle.evenodd.proofs.ChangeLaws.{Fitting, change_given, change_passed}
 
 pub done_of : (q : Changed) → verdict_of q ≡ pass → q ≡ changed.Done
 done_of changed.Done e = refl

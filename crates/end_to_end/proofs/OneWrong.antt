@@ -33,8 +33,8 @@ use Rattle.checking.specs.Locates as locates
 use Rattle.evenodd.specs.Rewrites.{column_rules, rewrite_rules, Rewrites}
 use Rattle.evenodd.specs.Rewrites as rewrites
 use Rattle.end_to_end.specs.OneWrong.{SameWords, PairGivesBack, NothingToRewrite, NothingElseToRewrite, RewriteKeepsValid, AbsentAre, RestoreAsRewrite}
-use Rattle.checking.proofs.Located.{locate_passed, valid_passes}
-use Rattle.evenodd.proofs.Rewritten.{between, agrees_self, one_but, rewrite_told}
+use Rattle.checking.proofs.LocateLaws.{locate_passed, valid_passes}
+use Rattle.evenodd.proofs.RewriteLaws.{between, agrees_self, one_but, rewrite_told}
 use Rattle.end_to_end.specs.OneOrNothing.{Fits, NoneFits, OneOrNothing}
 use Rattle.end_to_end.proofs.OneOrNothing.{one_or_nothing, alone, gives_it}
 

@@ -26,7 +26,7 @@ use Rattle.checking.specs.Checks.{Counted, Checks}
 use Rattle.checking.specs.Locates.{Locates}
 use Rattle.end_to_end.specs.OneOrNothing.{Fits, NoneFits, OneOrNothing}
 use Rattle.end_to_end.specs.TwoWrong.{SixOrAThird, AnyThirdNamed, RewriteSeals, OneOfTwoAbsent, BothAbsent, OtherTwoAbsent}
-use Rattle.checking.proofs.Located.{locate_passed}
+use Rattle.checking.proofs.LocateLaws.{locate_passed}
 use Rattle.end_to_end.proofs.OneOrNothing.{one_or_nothing, alone, gives_it}
 use Rattle.end_to_end.proofs.OneWrong.{rewrite_named, locate_names, not_read, few_absent}
 

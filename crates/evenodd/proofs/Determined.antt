@@ -19,8 +19,8 @@ use Rattle.inputs.specs.Rules.{too_many_absent, contradicted, stripe_rules, lent
 use Rattle.refusals.proofs.Rules.{passes_not, refuse_one, gives_one, passed_first, gives_passed, gives_instead, first_not, first_one}
 use Rattle.inputs.proofs.Stripe.{stripe_given}
 use Rattle.evenodd.specs.declared.encodes.Encoded.TheVariants as encoded
-use Rattle.evenodd.proofs.Rewritten.{between, agrees_self, agrees_back, one_but}
-use Rattle.evenodd.proofs.Changed.{change_given}
+use Rattle.evenodd.proofs.RewriteLaws.{between, agrees_self, agrees_back, one_but}
+use Rattle.evenodd.proofs.ChangeLaws.{change_given}
 use Rattle.evenodd.proofs.Shown.{in_stripe, in_bench}
 use Rattle.evenodd.specs.Determined.{EncodesOne, RestoresOne, RestoresUnread, RewritesOne, left_of, RewritesUnread, ChangesOne, ChangesAllOne, PlacesOne, SamePart, ShowsOne, PlacesUnread, ShowsUnread}
 use lib.ListN.{length}

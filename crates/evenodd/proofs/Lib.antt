@@ -1,8 +1,8 @@
 -- Laws that belong to no one function.
 pub mod Laid
-pub mod Restored
-pub mod Rewritten
-pub mod Changed
+pub mod RestoreLaws
+pub mod RewriteLaws
+pub mod ChangeLaws
 pub mod ManyChanged
 pub mod Shown
 pub mod Determined

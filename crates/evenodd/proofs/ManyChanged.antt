@@ -19,7 +19,7 @@ use Rattle.inputs.specs.Lists as lists
 use Rattle.inputs.proofs.CellLists.{Lists, lists_passed, item_passes}
 use Rattle.evenodd.specs.declared.many_cells.ChangedAll.TheVariants.{Done, Refused, ItemRefused}
 use Rattle.evenodd.specs.ChangesAll.{change_rules_of, ItemChanged, ChangesAll}
-use Rattle.evenodd.proofs.Changed.{change_told, change_passed}
+use Rattle.evenodd.proofs.ChangeLaws.{change_told, change_passed}
 
 module _ (m k b : ℕ) (columns rows cells s : List ℕ) where
   pub lists_refused : {f : Refusal} → Gives (list_rules m k b (length s) (length columns) (length rows) (length cells)) (refuse f) → ChangesAll m k b columns rows cells s s (Refused f)

@@ -11,7 +11,7 @@ use Rattle.inputs.proofs.Stripe.{stripe_passed}
 use Rattle.lines.proofs.Whole.{laid}
 use Rattle.checking.proofs.Parity.{parity_inside}
 use Rattle.checking.proofs.Zeros.{zeros_tell, no_zeros_tell}
-use Rattle.checking.proofs.Checked.{blank_checks, says_checks}
+use Rattle.checking.proofs.CheckLaws.{blank_checks, says_checks}
 use Rattle.checking.proofs.checks.check.Goals as goal
 
 pub returns-in_default : goal.returns-in_default

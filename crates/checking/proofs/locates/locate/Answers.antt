@@ -10,7 +10,7 @@ use Rattle.inputs.proofs.Tests.{told_refused, Numbers, stripe_good}
 use Rattle.lines.proofs.Whole.{laid}
 use Rattle.checking.proofs.Parity.{parity_inside}
 use Rattle.checking.proofs.Zeros.{zeros_tell, no_zeros_tell}
-use Rattle.checking.proofs.Located.{locate_refused, locate_blank, locate_intact, locate_column, locate_nobody}
+use Rattle.checking.proofs.LocateLaws.{locate_refused, locate_blank, locate_intact, locate_column, locate_nobody}
 use Rattle.checking.proofs.locates.locate.Goals as goal
 
 pub returns-in_default : goal.returns-in_default

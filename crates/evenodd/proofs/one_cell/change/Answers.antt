@@ -6,7 +6,7 @@ use Rattle.inputs.proofs.Tests.{told_refused, Numbers, stripe_good}
 use Rattle.refusals.proofs.Rules.{gives_first, gives_next}
 use Rattle.evenodd.specs.Changes.{cell_rules}
 use Rattle.lines.proofs.Whole.{laid}
-use Rattle.evenodd.proofs.Changed.{change_refused, change_told, change_passed}
+use Rattle.evenodd.proofs.ChangeLaws.{change_refused, change_told, change_passed}
 use Rattle.evenodd.proofs.one_cell.change.Goals as goal
 
 pub returns-in_default : goal.returns-in_default

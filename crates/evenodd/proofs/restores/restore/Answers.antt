@@ -5,7 +5,7 @@ use native.Mathlib.Omega.{arith}
 use Rattle.parity.specs.Stripe.{Stripe}
 use Rattle.inputs.proofs.Tests.{FewAbsent, gaps_good}
 use Rattle.evenodd.specs.Restores.{Restores}
-use Rattle.evenodd.proofs.Restored.{restore_refused, restore_gapped, restore_told}
+use Rattle.evenodd.proofs.RestoreLaws.{restore_refused, restore_gapped, restore_told}
 use Rattle.evenodd.proofs.restores.restore.Goals as goal
 
 pub returns-in_default : goal.returns-in_default

@@ -9,7 +9,7 @@ use Rattle.inputs.specs.Rules.{stripe_rules}
 use Rattle.inputs.proofs.Tests.{told_refused, Numbers, stripe_good}
 use Rattle.evenodd.specs.Rewrites.{column_rules}
 use Rattle.lines.proofs.Whole.{laid}
-use Rattle.evenodd.proofs.Rewritten.{rewrite_refused, rewrite_outside, rewrite_none, rewrite_done}
+use Rattle.evenodd.proofs.RewriteLaws.{rewrite_refused, rewrite_outside, rewrite_none, rewrite_done}
 use Rattle.evenodd.proofs.rewrites.rewrite.Goals as goal
 
 pub returns-in_default : goal.returns-in_default

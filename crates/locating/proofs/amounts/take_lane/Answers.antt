@@ -42,7 +42,7 @@ loop-i-preserved c =
     let f : ℕ → ℕ = λ i. get_or a.s.now (a.t * a.g.column + a.l + i * a.g.b) 0 in
     let e : 0 + y.i ≡ y.i = omega arith in (
       omega (arith, c.loop-i-test.true),
-      subst (λ (n : ℕ). Put a.x.now (set y.x n (f y.i)) 0 (y.i + 1) f) e (put_one a.x.now y.x 0 y.i (f y.i) f (omega (arith, slice-write-x c)) refl y.invariant.1),
+      subst (λ (n : ℕ). Put a.x.now (set y.x n (f y.i)) 0 (y.i + 1) f) e (put_one a.x.now y.x 0 y.i (f y.i) f (omega (arith, c.loop-i.invariant.1.size, c.requires.0.room, c.loop-i-test.true)) refl y.invariant.1),
     )
 
 pub bounds-x-last : goal.bounds-x-last
