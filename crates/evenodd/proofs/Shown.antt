@@ -18,7 +18,7 @@ use native.Mathlib.Decide.{dec_lt}
 use native.Mathlib.Omega.{arith}
 use lib.ListN.{length, take, drop}
 use denote.Ref.{Bor}
-use borrow.Rule.Slice.PartAt.{sl_part}
+use borrow.Rule.Slice.PartAt.{sl_partˢ}
 use borrow.Rule.Slice.Shared.{by_byte}
 use Rattle.parity.specs.Shape.{Shape, column_length, stripe_length, bench_length}
 use Rattle.parity.specs.Presence.{present, absences}
@@ -187,5 +187,5 @@ module _ {m k b : ℕ} {map : Map} {s bench : List ℕ} {column start n : ℕ} w
       rw (at, size, p.held) (part_end (half map.places column) 2 (column_length m b) (omega arith))
 
 -- a part that is lent is the part that is meant
-pub part_of : (x : Bor (List ℕ)) (at n g : ℕ) → PartOf x at n (sl_part x (by_byte at x.ref_ptr.1) at (at + n) g)
-part_of x at n g = record { block = refl; place = refl; bytes = let e : at + n - at ≡ n = omega arith in ap (λ k. take k (drop at x.now)) e }
+pub part_of : (x : Bor (List ℕ)) (at n : ℕ) → PartOf x at n (sl_partˢ x (by_byte at x.ref_ptr.1) at (at + n))
+part_of x at n = record { block = refl; place = refl; bytes = let e : at + n - at ≡ n = omega arith in ap (λ k. take k (drop at x.now)) e }

@@ -40,7 +40,7 @@ pub returns-then-not-fits : goal.returns-then-not-fits
 returns-then-not-fits c =
     let good : Numbers c.args.m c.args.k c.args.b (length c.args.stripe.now) c.in-Good.length = stripe_good _ _ _ _ c.judge_stripe-judged.result c.judge_stripe-judged.ensures c.in-Good.is in
     -- a stripe, of the length that was tested
-    let stripe : Stripe c.args.m c.args.k c.args.b c.args.stripe.now = record { whole = good.stripe; bytes = λ x. omega (arith, c.type_inv.stripe x) } in
+    let stripe : Stripe c.args.m c.args.k c.args.b c.args.stripe.now = record { whole = good.stripe; bytes = λ x. omega (arith, c.slice_known-1.given x) } in
     let a = c.args in
     let r = c.fits_but-fits in
     rewrite_none a.m a.k a.b a.column good.shape a.stripe.now stripe (omega (arith, c.if-k-column.false)) (λ f. true≢false (sym (r.ensures.1 f) ∙ c.if-not-fits.true))
@@ -58,7 +58,7 @@ pub returns : goal.returns
 returns c =
     let good : Numbers c.args.m c.args.k c.args.b (length c.args.stripe.now) c.in-Good.length = stripe_good _ _ _ _ c.judge_stripe-judged.result c.judge_stripe-judged.ensures c.in-Good.is in
     -- a stripe, of the length that was tested
-    let stripe : Stripe c.args.m c.args.k c.args.b c.args.stripe.now = record { whole = good.stripe; bytes = λ x. omega (arith, c.type_inv.stripe x) } in
+    let stripe : Stripe c.args.m c.args.k c.args.b c.args.stripe.now = record { whole = good.stripe; bytes = λ x. omega (arith, c.slice_known-1.given x) } in
     let a = c.args in
     let r = c.fits_but-fits in
     rewrite_done a.m a.k a.b a.column good.shape a.stripe.now stripe (omega (arith, c.if-k-column.false)) (r.ensures.0 c.if-not-fits.false) _ c.rewrite.ensures.becomes

@@ -31,12 +31,12 @@ pub returns-in-InStripe : goal.returns-in-InStripe
 returns-in-InStripe c =
     -- what the question answered, by the arm that was taken
     let in_stripe : Places c.args.m c.args.k c.args.b c.args.map c.args.stripe.now c.args.bench.now c.args.column (InStripe c.in-InStripe.start c.in-InStripe.length) = rw c.in-InStripe.is at c.place_of.ensures in
-    record { answer = InStripe _ _; places = in_stripe; part = part_of _ _ _ _ }
+    record { answer = InStripe _ _; places = in_stripe; part = part_of _ _ _ }
 
 pub returns-in-InBench : goal.returns-in-InBench
 returns-in-InBench c =
     let in_bench : Places c.args.m c.args.k c.args.b c.args.map c.args.stripe.now c.args.bench.now c.args.column (InBench c.in-InBench.start c.in-InBench.length) = rw c.in-InBench.is at c.place_of.ensures in
-    record { answer = InBench _ _; places = in_bench; part = part_of _ _ _ _ }
+    record { answer = InBench _ _; places = in_bench; part = part_of _ _ _ }
 
 pub returns-in-Refused : goal.returns-in-Refused
-returns-in-Refused c = record { answer = Refused _; places = rw c.in-Refused.is at c.place_of.ensures; part = part_of _ 0 0 _ }
+returns-in-Refused c = record { answer = Refused _; places = rw c.in-Refused.is at c.place_of.ensures; part = part_of _ 0 0 }
