@@ -35,7 +35,7 @@ unfolding column_length
 overflow_mul-columns c =
     -- what is known where the contents say a shape
     let good : Good c.args.image.now c.in-Shape.m c.in-Shape.k c.in-Shape.b c.contents-found.result.map.places = good_contents _ c.contents-found.result c.contents-found.ensures c.in-Shape.is in
-    let g = good in let a = c.answer-1.given.0 in omega (arith, parts_most g.shape refl (c.in-Shape.k + 2) (places_most g.shape))
+    let g = good in omega (arith, parts_most g.shape refl (c.in-Shape.k + 2) (places_most g.shape))
 
 pub returns-then-stripe-columns : goal.returns-then-stripe-columns
 unfolding column_length stripe_length
