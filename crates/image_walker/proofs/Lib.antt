@@ -2,6 +2,5 @@
 pub mod Parts
 pub mod Finding
 pub mod Stepping
-pub mod Held
 pub mod Determined
 pub mod Unread

@@ -1,4 +1,5 @@
 -- The pieces of an image, joined.
+--   begins, entries           where the body of column t begins, and the entries of the columns below n
 --   entries_length            each entry has eight bytes
 --   body_of_length, bodies_length    a body has a column's bytes or none, and so many have those before a column
 --   body_fits                 the body of a present column ends before those of all columns do
@@ -22,6 +23,12 @@ use Rattle.image.specs.Format.{le2, le4, joined, bodies_at, present_below, offse
 use Rattle.image.proofs.Standing.{joined_length}
 use Rattle.image.proofs.Laid.{bodies_none, bodies_more}
 use Rattle.image_writer.specs.Pieces.{four_numbers, entry_of, body_of}
+
+abbrev pub begins : List Bool → ℕ → ℕ → ℕ → ℕ
+begins map column bodies t = bodies + present_below t map * column
+
+abbrev pub entries : List Bool → ℕ → ℕ → ℕ → List ℕ
+entries map column bodies n = joined n (λ t. entry_of t (present map t) (begins map column bodies t))
 
 entry_length : (t : ℕ) (there : Bool) (begins : ℕ) → length (entry_of t there begins) ≡ 8
 entry_length t true begins = refl

@@ -6,6 +6,7 @@ use borrow.Author.Rules.{rules}
 use native.Mathlib.Omega.{arith}
 use Rattle.image_walker.proofs.Finding.{before_none, before_present, before_absent, before_most, absent_none, absent_more}
 use Rattle.image_walker.proofs.steps.find_from.Goals as goal
+use Rattle.image_walker.proofs.steps.find_from.Goals.{then-is_present+else-place-t, else-is_present}
 
 pub loop-t-init : goal.loop-t-init
 loop-t-init c = (search rules, before_none _ _ _, absent_none _ _)
@@ -31,8 +32,8 @@ pub loop-t-preserved : goal.loop-t-preserved
 loop-t-preserved c =
     let e = sym c.is_present.ensures in
     elim c.if-is_present.branch [
-      | inl (one, two, more) ↦ (search rules, more ∙ before_present _ _ _ _ c.loop-t.invariant.1 (e ∙ one.taken), absent_more _ _ _ c.loop-t.invariant.2 (λ p. absurd (omega (arith, two.left))))
-      | inr (one, same) ↦ let absent = e ∙ one.left in (search rules, same ∙ before_absent _ _ _ _ c.loop-t.invariant.1 absent, absent_more _ _ _ c.loop-t.invariant.2 (λ _. absent))
+      | then-is_present+else-place-t w ↦ (search rules, w.start-is ∙ before_present _ _ _ _ c.loop-t.invariant.1 (e ∙ w.if-is_present.true), absent_more _ _ _ c.loop-t.invariant.2 (λ p. absurd (omega (arith, w.if-place-t.false))))
+      | else-is_present w ↦ let absent = e ∙ w.if-is_present.false in (search rules, w.start-is ∙ before_absent _ _ _ _ c.loop-t.invariant.1 absent, absent_more _ _ _ c.loop-t.invariant.2 (λ _. absent))
     ]
 
 pub returns : goal.returns

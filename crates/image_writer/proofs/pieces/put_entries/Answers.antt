@@ -13,15 +13,10 @@ use Rattle.text.proofs.Writing.{wrote_none, wrote_then, wrote_same}
 use Rattle.image.specs.Format.{joined, present_below}
 use Rattle.image.proofs.Laid.{bodies_none}
 use Rattle.image_writer.specs.Pieces.{entry_of}
-use Rattle.image_writer.proofs.Joining.{entries_length, body_fits, begins_next}
+use Rattle.image_writer.proofs.Joining.{begins, entries, entries_length, body_fits, begins_next}
 use borrow.Author.Rules.{rules}
 use Rattle.image_writer.proofs.pieces.put_entries.Goals as goal
-
-abbrev begins : List Bool → ℕ → ℕ → ℕ → ℕ
-begins map column bodies t = bodies + present_below t map * column
-
-abbrev entries : List Bool → ℕ → ℕ → ℕ → List ℕ
-entries map column bodies n = joined n (λ t. entry_of t (present map t) (begins map column bodies t))
+use Rattle.image_writer.proofs.pieces.put_entries.Goals.{then-there, else-there}
 
 -- one entry more
 entry_next : (map : List Bool) (column bodies t : ℕ) {x y z : List ℕ} {at p r : ℕ} → Wrote x y at p (entries map column bodies t) → Wrote y z p r (entry_of t (present map t) (begins map column bodies t))
@@ -52,10 +47,10 @@ loop-t-preserved c =
     let next = begins_next a.map.places a.column a.bodies c.loop-t.t in (
       search rules,
       entry_next _ _ _ _ c.loop-t.invariant.1 (wrote_same c.put_entry-next.ensures (ap₂ (entry_of c.loop-t.t) there c.loop-t.invariant.2)),
-      ⊎_elim
-          (λ w. w.1 ∙ ap (λ n. n + a.column) c.loop-t.invariant.2 ∙ next true (sym there ∙ w.0.taken))
-          (λ w. w.1 ∙ c.loop-t.invariant.2 ∙ sym (add-zero _) ∙ next false (sym there ∙ w.0.left))
-          c.if-there.branch,
+      elim c.if-there.branch [
+        | then-there w ↦ w.body-is ∙ ap (λ n. n + a.column) c.loop-t.invariant.2 ∙ next true (sym there ∙ w.if-there.true)
+        | else-there w ↦ w.body-is ∙ c.loop-t.invariant.2 ∙ sym (add-zero _) ∙ next false (sym there ∙ w.if-there.false)
+      ],
     )
 
 pub shape_of-image : goal.shape_of-image

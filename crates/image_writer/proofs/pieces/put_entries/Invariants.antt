@@ -2,6 +2,7 @@
 use mathlib.Core.Path.{◌≡◌}
 use Prim.Native.Nat.{◌≤◌}
 use Rattle.text.specs.Text.{Wrote}
+use Rattle.image_writer.proofs.Joining.{begins, entries}
 use Rattle.image_writer.proofs.pieces.put_entries.Given as goal
 
 abbrev pub invariant-loop-t : goal.invariant-loop-t

@@ -15,12 +15,6 @@ use Rattle.inputs.proofs.Tests.{passed_on, told_passed, Numbers, stripe_good}
 use Rattle.image_writer.specs.Writes.{marked_rules}
 use Rattle.image_writer.proofs.writing.judge_marked.Goals as goal
 
--- the map's rules give the verdict
-after : (c : goal.In-Good) {v : Verdict} → let a = c.args in Gives (map_rules a.k a.map) v → Gives (marked_rules a.m a.k a.b a.map a.length) v
-after c {v} =
-    let a = c.args in
-    gives_after (stripe_rules a.m a.k a.b a.length) (map_rules a.k a.map) v (told_passed (stripe_rules a.m a.k a.b a.length) c.judge_stripe-judged.result c.judge_stripe-judged.ensures.told c.in-Good.is)
-
 pub returns-in_default : goal.returns-in_default
 returns-in_default c =
     let a = c.args in
@@ -31,7 +25,7 @@ returns-in_default c =
 
 pub returns-then-not-is_true : goal.returns-then-not-is_true
 returns-then-not-is_true c = record {
-  told = after (goal.at.returns-then-not-is_true c).In-Good (gives_first (λ h. true≢false (sym (c.is_true.ensures.1 h) ∙ c.if-not-is_true.true)));
+  told = gives_after (stripe_rules c.args.m c.args.k c.args.b c.args.length) (map_rules c.args.k c.args.map) _ (told_passed (stripe_rules c.args.m c.args.k c.args.b c.args.length) c.judge_stripe-judged.result c.judge_stripe-judged.ensures.told c.in-Good.is) (gives_first (λ h. true≢false (sym (c.is_true.ensures.1 h) ∙ c.if-not-is_true.true)));
   column = tt;
 }
 
@@ -47,7 +41,7 @@ returns-then-reaches c =
     let truth : TrueMap c.args.map = c.is_true.ensures.0 c.if-not-is_true.false in
     let a = c.args in
     record {
-      told = after (goal.at.returns-then-reaches c).In-Good (gives_next (λ lies. lies truth) (gives_first ((from_highest a.map truth (a.k + 2)).1 (c.reaches.ensures.0 c.if-reaches.true))));
+      told = gives_after (stripe_rules c.args.m c.args.k c.args.b c.args.length) (map_rules c.args.k c.args.map) _ (told_passed (stripe_rules c.args.m c.args.k c.args.b c.args.length) c.judge_stripe-judged.result c.judge_stripe-judged.ensures.told c.in-Good.is) (gives_next (λ lies. lies truth) (gives_first ((from_highest a.map truth (a.k + 2)).1 (c.reaches.ensures.0 c.if-reaches.true))));
       column = tt;
     }
 
@@ -57,6 +51,6 @@ returns c =
     let truth : TrueMap c.args.map = c.is_true.ensures.0 c.if-not-is_true.false in
     let a = c.args in
     record {
-      (goal.at.returns c).In-Good = rw c.in-Good.is (after (goal.at.returns c).In-Good (gives_next (λ lies. lies truth) (gives_next (λ p. true≢false (sym (c.reaches.ensures.1 ((from_highest a.map truth (a.k + 2)).0 p)) ∙ c.if-reaches.false)) refl)));
+      told = rw c.in-Good.is (gives_after (stripe_rules c.args.m c.args.k c.args.b c.args.length) (map_rules c.args.k c.args.map) _ (told_passed (stripe_rules c.args.m c.args.k c.args.b c.args.length) c.judge_stripe-judged.result c.judge_stripe-judged.ensures.told c.in-Good.is) (gives_next (λ lies. lies truth) (gives_next (λ p. true≢false (sym (c.reaches.ensures.1 ((from_highest a.map truth (a.k + 2)).0 p)) ∙ c.if-reaches.false)) refl)));
       column = c.judge_stripe-judged.ensures.column;
     }
