@@ -27,14 +27,12 @@ put_refused-requires-in-Contradicted c =
 pub returns-in-Complete : goal.returns-in-Complete
 returns-in-Complete c =
     let w = c.put_complete.ensures in
-    let known = c.outcome-1.given in
     let judged = c.judge_image-judged in
     reports_start {t = complete_text c.in-Complete.shape judged.result.map _ _ false} judged.result judged.ensures w.0 (omega (arith, w.0.size, w.1)) (rw c.in-Complete.is refl)
 
 pub returns-in-Blank : goal.returns-in-Blank
 returns-in-Blank c =
     let w = c.put_complete-in-Blank.ensures in
-    let known = c.outcome-in-Blank-1.given in
     let judged = c.judge_image-judged in
     reports_start {t = complete_text c.in-Blank.shape judged.result.map _ _ true} judged.result judged.ensures w.0 (omega (arith, w.0.size, w.1)) (rw c.in-Blank.is refl)
 
