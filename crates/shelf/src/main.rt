@@ -4,12 +4,13 @@
 mod reading;
 mod telling;
 
-fn main() {
+fn main(rt: HostRuntime) {
     let mut input = [0u8; 16385];
     let mut stripe = [0u8; 49056];
     let mut bench = [0u8; 32704];
     let mut out = [0u8; 102400];
-    let taken = reading::read_input(&mut input);
+    let mut from = rt.stdin();
+    let taken = reading::read_input(&mut from, &mut input);
     let end = telling::tell(taken, &input, &mut stripe, &mut bench, &mut out);
     io::write_all(1, &out[0..end]);
 }

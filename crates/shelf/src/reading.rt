@@ -2,6 +2,8 @@
 ghost use Rattle.std.specs.Prelude.{◌≡◌, ◌+◌, ◌<◌, ◌^◌, length};
 ghost use Rattle.shelf.specs.Reading.{input_after, Nears, Taken};
 
+use std::io::{Read, Stdin};
+
 // What is known of the input: so many bytes were read and there may be more; it has so many bytes; or a read failed.
 #[derive(Clone, Copy)]
 pub(crate) enum Input {
@@ -26,23 +28,26 @@ fn after_read(done: usize, got: isize, part: &[u8]) -> Input
 }
 
 // One read into `part`, which stands after the `done` bytes that were read before.
-fn read_more(done: usize, part: &mut [u8]) -> Input
+fn read_more(from: &mut Stdin, done: usize, part: &mut [u8]) -> Input
     requires { done + length part.old < 2 ^ 64 }
     ensures { Nears done (length part.old) result }
 {
-    let got = libc::read(0, part);
+    let got = match from.read(part) {
+        Ok(n) => n as isize,
+        Err(_) => -1,
+    };
     after_read(done, got, part)
 }
 
 // Reads until the input ends, or more of it is there than an image may have.
-pub(crate) fn read_input(buf: &mut [u8]) -> Input
+pub(crate) fn read_input(from: &mut Stdin, buf: &mut [u8]) -> Input
     requires { 16384 < length buf.old }
     ensures { Taken (length buf.new) result }
 {
     let end = buf.len();
     let mut done = 0;
     while done < end {
-        let input = read_more(done, &mut buf[done..end]);
+        let input = read_more(from, done, &mut buf[done..end]);
         let Input::More(n) = input else {
             return input;
         };
