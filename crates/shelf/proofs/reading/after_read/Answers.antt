@@ -45,9 +45,9 @@ returns-then-got-lt0 c =
 pub returns-then-n-eq0 : goal.returns-then-n-eq0
 returns-then-n-eq0 c =
     ap (further c.args.done) (sym c.if-n-eq0.true)
-    ∙ counted_bits c.args.done (length c.args.part.now) c.args.got c.ranges.got _ c.if-got-lt0.false c.count-n.ensures.1
+    ∙ counted_bits c.args.done (length c.args.part.now) c.args.got c.ranges.got _ c.if-got-lt0.false c.count-n.ensures.value
 
 pub returns : goal.returns
 returns c =
     some c.args.done _ c.if-n-eq0.false
-    ∙ counted_bits c.args.done (length c.args.part.now) c.args.got c.ranges.got _ c.if-got-lt0.false c.count-n.ensures.1
+    ∙ counted_bits c.args.done (length c.args.part.now) c.args.got c.ranges.got _ c.if-got-lt0.false c.count-n.ensures.value

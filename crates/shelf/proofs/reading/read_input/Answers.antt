@@ -10,6 +10,7 @@ use denote.Enum.Declared.{tag_of}
 use types.Run.{OneOf}
 use borrow.Author.Rules.{rules}
 use native.Mathlib.Omega.{arith}
+use mathlib.Core.Path.{◌≡◌}
 use Rattle.shelf.specs.declared.reading.Input.{Input}
 use Rattle.shelf.specs.declared.reading.Input.TheVariants.{More, Whole, Failed}
 use Rattle.shelf.specs.Reading.{Nears, Taken}
@@ -17,11 +18,10 @@ use Rattle.shelf.specs.contracts.reading.Input.{the_type}
 use Rattle.shelf.proofs.reading.read_input.Goals as goal
 
 -- what is no more bytes lies within the bytes that were read before
-stopped : (done room n : ℕ) (r : Input) → OneOf (1 ∷ 2 ∷ []) (tag_of the_type r) → Nears done room r → done ≤ n → Taken n r
-stopped done room n (More k) (inl e) h l = absurd (omega arith)
-stopped done room n (More k) (inr e) h l = absurd (omega arith)
-stopped done room n (Whole k) t h l = omega arith
-stopped done room n Failed t h l = tt
+stopped : (done room n : ℕ) (r : Input) → ((x : ℕ) → r ≡ More x → ⊥) → Nears done room r → done ≤ n → Taken n r
+stopped done room n (More k) other h l = absurd (other k refl)
+stopped done room n (Whole k) other h l = omega arith
+stopped done room n Failed other h l = tt
 
 within : (n : ℕ) (x : List ℕ) → length (take n x) ≤ n
 within n x = rw length-take (min-le_left n (length x))
@@ -38,7 +38,7 @@ read_more-input-requires c =
 pub returns-in_default : goal.returns-in_default
 returns-in_default c =
     let l = c.loop-done in
-    stopped l.done _ _ c.read_more-input.result c.in_default.keys2 c.read_more-input.ensures (search rules)
+    stopped l.done _ _ c.read_more-input.result c.in_default.not-More c.read_more-input.ensures (search rules)
 
 pub loop-done-smaller : goal.loop-done-smaller
 loop-done-smaller c =

@@ -23,5 +23,5 @@ near done room long (negsuc n) r e h = rw h tt
 pub returns : goal.returns
 returns c =
     let a = c.args in
-    let read = c.read-got in
-    near a.done (length a.part.now) (length read.new.buf) (to_z w64 (of_z w64 read.result)) c.after_read.result (search rules) c.after_read.ensures
+    let read = c.read in
+    near a.done (length a.part.now) (length read.new.buf) (to_z w64 c.match-read.got-bits) c.after_read.result (search rules) c.after_read.ensures
