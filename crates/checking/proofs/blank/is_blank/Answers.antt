@@ -23,11 +23,10 @@ part_zeros {x} a inside late early = record {
 }
 
 pub returns-then-is_zero : goal.returns-then-is_zero
-returns-then-is_zero c =
-    (
-      λ e. part_zeros c.args.parity c.requires (c.is_zero.ensures.0 c.if-is_zero.true) (c.is_zero-then-is_zero.ensures.0 e),
-      λ all. c.is_zero-then-is_zero.ensures.1 (zeros_part 0 c.args.parity all),
-    )
+returns-then-is_zero c = (
+  λ e. part_zeros c.args.parity c.requires (c.is_zero.ensures.0 c.if-is_zero.true) (c.is_zero-then-is_zero.ensures.0 e),
+  λ all. c.is_zero-then-is_zero.ensures.1 (zeros_part 0 c.args.parity all),
+)
 
 pub returns : goal.returns
 returns c =

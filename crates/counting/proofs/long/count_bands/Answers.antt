@@ -82,9 +82,9 @@ loop-first-preserved c =
       omega (arith, n.ensures.2, y.invariant.2),
       λ l h. v.ensures.after (a.seed + l) (omega (arith, cells_room n.result a.g.b a.seed n.ensures.1)) ∙ y.invariant.3 l h,
       (elim c.if-found-ne0.branch [
-      | then-found-ne0+else-enough-count w ↦ found_as w.count-is w.last-is (found_after a.enough a.g.b f y.count y.last y.first y.invariant.4 n.result r.result.count r.result.last w.if-found-ne0.true band)
-      | else-found-ne0 w ↦ found_as w.count-is w.last-is (found_over a.enough a.g.b f y.count y.last y.first y.invariant.4 n.result r.result.count r.result.last w.if-found-ne0.false band)
-    ]),
+        | then-found-ne0+else-enough-count w ↦ found_as w.count-is w.last-is (found_after a.enough a.g.b f y.count y.last y.first y.invariant.4 n.result r.result.count r.result.last w.if-found-ne0.true band)
+        | else-found-ne0 w ↦ found_as w.count-is w.last-is (found_over a.enough a.g.b f y.count y.last y.first y.invariant.4 n.result r.result.count r.result.last w.if-found-ne0.false band)
+      ]),
     )
 
 pub shape_of-at : goal.shape_of-at
