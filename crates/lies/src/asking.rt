@@ -1,6 +1,6 @@
 // What is asked with a map, a line each, in the form `CASE OPERATION ANSWER`; a case is named by its places and by the two numbers that the map has. The
 // stripe is that of the numbers' C1.
-use crate::calls::{mark_line, restore_line, say_kept, show_line, write_line};
+use crate::calls::{mark_line, restore_line, say_kept, show_line};
 use crate::words::{Page, say_four, say_number, say_word};
 use evenodd::Map;
 
@@ -19,7 +19,7 @@ fn truth_line(out: &mut Page, at: usize, name: &[u8], map: Map) -> usize {
     say_word(out, third, b"\n")
 }
 
-// Restore, show of column 0, how many bytes show hands out of it, none where it is refused, and write.
+// Restore, show of column 0, and how many bytes show hands out of it: none where it is refused.
 fn call_lines(out: &mut Page, at: usize, name: &[u8], map: Map) -> usize {
     let c1 = [1u8, 2, 4, 8, 16, 32, 21, 42, 57, 30];
     let bench = [161u8, 162, 163, 164];
@@ -31,9 +31,7 @@ fn call_lines(out: &mut Page, at: usize, name: &[u8], map: Map) -> usize {
     let f = say_word(out, e, b" part");
     let part = evenodd::show(3, 3, 1, map, &c1, &bench, 0);
     let g = say_number(out, f, part.len());
-    let h = say_word(out, g, b"\n");
-    let i = say_case(out, h, name, map);
-    write_line(out, i, [3, 3, 1], map, &c1)
+    say_word(out, g, b"\n")
 }
 
 // Three marks: a place that is present in most of the maps is marked present, one that is the highest in most of them is marked absent, and one that no map

@@ -1,7 +1,6 @@
 // The calls that take a map, and its marks: each ends a line whose start says the case. Of a mark the start says the place too.
 use crate::words::{Page, say_bench, say_four, say_map, say_number, say_word};
 use evenodd::{Map, Marked, Place, Restored};
-use image_writer::Written;
 
 // The answer, how many columns were restored, and which.
 fn say_restored(out: &mut Page, at: usize, answer: Restored) -> usize {
@@ -54,37 +53,6 @@ pub(crate) fn show_line(
     let first = say_word(out, at, b" show");
     let second = say_column(out, first, answer);
     say_word(out, second, b"\n")
-}
-
-// The answer, and the length of what was written.
-fn say_written(out: &mut Page, at: usize, answer: Written) -> usize {
-    match answer {
-        Written::Length(n) => {
-            let next = say_number(out, at, 0);
-            say_number(out, next, n)
-        }
-        Written::Refused(f) => {
-            let after = say_number(out, at, f.number() as usize);
-            say_number(out, after, 0)
-        }
-    }
-}
-
-// Writes an image into 58 bytes `a1`, which are enough for C1: the answer, the length, and of the buffer the first byte, the state of column 0, the first
-// byte of the bodies and the last byte.
-pub(crate) fn write_line(
-    out: &mut Page,
-    at: usize,
-    shape: [usize; 3],
-    map: Map,
-    stripe: &[u8],
-) -> usize {
-    let mut image = [161u8; 58];
-    let answer = image_writer::write(shape[0], shape[1], shape[2], map, stripe, &mut image);
-    let first = say_word(out, at, b" write");
-    let second = say_written(out, first, answer);
-    let third = say_bench(out, second, [image[0], image[10], image[48], image[57]]);
-    say_word(out, third, b"\n")
 }
 
 // The number of what a mark said.

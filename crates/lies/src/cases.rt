@@ -1,6 +1,6 @@
 // The maps: places, and two numbers that they say or do not say.
 use crate::asking::map_lines;
-use crate::calls::{restore_line, show_line, write_line};
+use crate::calls::{restore_line, show_line};
 use crate::words::{Page, say_word};
 use evenodd::Map;
 
@@ -122,21 +122,4 @@ pub(crate) fn show_faults(out: &mut Page, at: usize) -> usize {
     let f = show_line(out, e, [3, 3, 1], map, &bench, 9);
     let g = say_word(out, f, b"column+lie+stray");
     show_line(out, g, [3, 3, 1], stray, &bench, 9)
-}
-
-// Beside a wrong m, a stripe of another length, and a buffer that is too short, alone and with a place from k + 2 on: write.
-pub(crate) fn write_faults(out: &mut Page, at: usize) -> usize {
-    let c1 = [1u8, 2, 4, 8, 16, 32, 21, 42, 57, 30];
-    let map = Map::of_parts(five(), 4, 4);
-    let mut six = five();
-    six[5] = true;
-    let stray = Map::of_parts(six, 5, 5);
-    let a = say_word(out, at, b"m+lie");
-    let b = write_line(out, a, [9, 3, 1], map, &c1);
-    let c = say_word(out, b, b"length+lie");
-    let d = write_line(out, c, [3, 3, 1], map, &c1[0..9]);
-    let e = say_word(out, d, b"lie+short");
-    let f = write_line(out, e, [3, 3, 2], map, &[165u8; 20]);
-    let g = say_word(out, f, b"lie+stray+short");
-    write_line(out, g, [3, 3, 2], stray, &[165u8; 20])
 }

@@ -24,7 +24,6 @@ fn main() {
     let d = cases::last_place(&mut out, c);
     let e = cases::restore_faults(&mut out, d);
     let f = cases::show_faults(&mut out, e);
-    let g = cases::write_faults(&mut out, f);
-    let end = marking::one_by_one(&mut out, g);
+    let end = marking::one_by_one(&mut out, f);
     print(&out, end);
 }
