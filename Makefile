@@ -6,7 +6,7 @@
 #
 # PREFIX   where make install puts the files: /usr/local
 # DESTDIR  a folder that stands for / while they are copied
-# CPU      x86-64 (what the kit makes), or x86-64-v3, x86-64-v4 or aarch64 (the same proved module, compiled for another processor);
+# CPU      x86-64 (every such processor), x86-64-v2, x86-64-v3, x86-64-v4 or aarch64: library and program are proved and compiled for it;
 #          without it the machine's own, x86-64 or aarch64
 PREFIX ?= /usr/local
 export PREFIX DESTDIR CPU

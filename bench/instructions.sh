@@ -1,9 +1,8 @@
 #!/bin/sh
 # Counts the x86-64 instructions of one call, of the shipped object and of the C programs beside it, at all shapes or at those named:
 # instructions.sh [m,k,b ...]
-# It works on x86-64 and on other processors: the program runs under Debian's qemu, with a plugin that counts. Two runs of five calls
-# and of one differ by four calls. The processor is Nehalem, for on a later one the C library copies by an instruction that qemu counts
-# once for each byte.
+# The program runs under Debian's qemu, with a plugin that counts. Two runs of five calls and of one differ by four calls. The processor is
+# Nehalem, for on a later one the C library copies by an instruction that qemu counts once for each byte.
 # BENCH_ROOT names the repository if it is not the folder above this one.
 set -eu
 here=$(cd "$(dirname "$0")" && pwd)
@@ -11,10 +10,8 @@ root=${BENCH_ROOT:-$(dirname "$here")}
 out=$root/target/bench
 mkdir -p "$out"
 
-packages="gcc libc6-dev qemu-user"
-[ "$(uname -m)" = x86_64 ] || packages="$packages gcc-x86-64-linux-gnu libc6-dev-amd64-cross"
 missing=
-for package in $packages; do
+for package in gcc libc6-dev qemu-user; do
     dpkg -s "$package" >/dev/null 2>&1 || missing="$missing $package"
 done
 if [ -n "$missing" ]; then
@@ -23,23 +20,20 @@ if [ -n "$missing" ]; then
     apt-get install -y --no-install-recommends $missing >/dev/null
 fi
 
-kit=$(dirname "$(dirname "$(rt doc)")")
-clang=$kit/on/$(uname -m)/toolchain/bin/clang
-[ -x "$clang" ] || { echo "instructions.sh: no clang for $(uname -m) in the kit" >&2; exit 2; }
+clang=$(dirname "$(rt doc)")/toolchain/bin/clang
+[ -x "$clang" ] || { echo "instructions.sh: no clang in the kit" >&2; exit 2; }
 OARWILLOW_ROOT=$root "$here/../install/build" x86-64 >&2
 
-# On x86-64 the compiler of this name is the machine's own. The other's headers stand in a folder of their own.
-gcc=x86_64-linux-gnu-gcc
 objects=
 for file in instructions own plain registers; do
     object=$out/$file.x86_64.o
-    "$clang" --no-default-config --target=x86_64-unknown-linux-gnu -O3 -Wall -Wextra -isystem "$($gcc -print-file-name=include)" \
-        -isystem /usr/x86_64-linux-gnu/include -I "$root/include" -c "$here/$file.c" -o "$object"
+    "$clang" --no-default-config --target=x86_64-unknown-linux-gnu -O3 -Wall -Wextra -isystem "$(cc -print-file-name=include)" \
+        -isystem /usr/include/x86_64-linux-gnu -isystem /usr/include -I "$root/include" -c "$here/$file.c" -o "$object"
     objects="$objects $object"
 done
 program=$out/instructions
 # shellcheck disable=SC2086
-$gcc -static $objects "$root/target/install/x86-64/liboarwillow.a" -o "$program"
+cc -static $objects "$root/target/install/x86-64/liboarwillow.a" -o "$program"
 
 # Runs the program and prints how many instructions that took.
 counted() { # WORDS

@@ -1,7 +1,6 @@
 #!/bin/sh
 # Builds the benchmark and prints its table, of all shapes or of those named: run.sh [m,k,b ...]
-# On x86-64 it measures the shipped object. On another processor that is not possible, for the time would be the emulator's: there it
-# measures a native recompilation of the same module, and counts the x86-64 instructions of the shipped object.
+# It measures the shipped object, on x86-64, for which the kit is.
 # BENCH_ROOT names the repository if it is not the folder above this one; OARWILLOW_OBJECT an object or archive to link instead.
 set -eu
 here=$(cd "$(dirname "$0")" && pwd)
@@ -21,19 +20,17 @@ if [ -n "$missing" ]; then
 fi
 
 machine=$(uname -m)
-kit=$(dirname "$(dirname "$(rt doc)")")
-clang=$kit/on/$machine/toolchain/bin/clang
-[ -x "$clang" ] || { echo "run.sh: no clang for $machine in the kit" >&2; exit 2; }
+[ "$machine" = x86_64 ] || { echo "run.sh: this machine is $machine, and the kit is for x86-64" >&2; exit 2; }
+clang=$(dirname "$(rt doc)")/toolchain/bin/clang
+[ -x "$clang" ] || { echo "run.sh: no clang in the kit" >&2; exit 2; }
 
-cpu=$(echo "$machine" | tr _ -)
-library=$root/target/install/$cpu/liboarwillow.a
+library=$root/target/install/x86-64/liboarwillow.a
 if [ -n "${OARWILLOW_OBJECT:-}" ]; then
     library=$OARWILLOW_OBJECT
     label="$OARWILLOW_OBJECT, given by hand (not the shipped object)"
 else
-    OARWILLOW_ROOT=$root "$here/../install/build" "$cpu" >&2
+    OARWILLOW_ROOT=$root "$here/../install/build" x86-64 >&2
     label="liboarwillow.a, the shipped object"
-    [ "$cpu" = x86-64 ] || label="native recompilation of the same module, not the shipped object"
 fi
 
 jerasure=$(dirname "$(dpkg -L libjerasure-dev | grep '/liberation.h$')")
@@ -51,4 +48,3 @@ echo "library:  $label"
 echo "compiler: $("$clang" --version | head -n 1), -O3, $machine baseline"
 echo "machine:  $(lscpu | sed -n 's/^Model name: *//p' | head -n 1)"
 taskset -c "${BENCH_CPU:-0}" "$out/contest" "$@"
-[ "$machine" = x86_64 ] || "$here/instructions.sh" "$@"
