@@ -63,8 +63,8 @@ module _ (m k b : ℕ) (map : List Bool) (s : List ℕ) (whole : length s ≡ st
       go true = length-take-le (column_length m b) _ (let x = parts_end (column_length m b) l in simp length-drop (omega arith))
       go false = refl
 
-  body_at : (t : ℕ) → t ≤ k + 2 → length (joined t (body m b map s)) ≡ present_below t map * column_length m b
-  body_at t h =
+  body_at_lem : (t : ℕ) → t ≤ k + 2 → length (joined t (body m b map s)) ≡ present_below t map * column_length m b
+  body_at_lem t h =
       joined_length (λ t. present_below t map * column_length m b) (body m b map s) (bodies_none map (column_length m b)) t (λ t l.
       bodies_more map (column_length m b) t ∙ ap (λ x. present_below t map * column_length m b + x) (sym (body_length t (omega arith))))
 
@@ -72,7 +72,7 @@ module _ (m k b : ℕ) (map : List Bool) (s : List ℕ) (whole : length s ≡ st
   unfolding image_of
   image_length =
       let x = entry_at_lem (k + 2) in
-      let y = body_at (k + 2) (omega arith) in
+      let y = body_at_lem (k + 2) (omega arith) in
       let z = length-append (joined (k + 2) (entry m k b map)) (joined (k + 2) (body m b map s)) in
       omega arith
 
@@ -91,7 +91,7 @@ module _ (m k b : ℕ) (map : List Bool) (s : List ℕ) (whole : length s ≡ st
         third = stands_first (le2 b) _ s4;
         fourth = stands_first (le2 0) _ s6;
         entries = λ t l. rw (entry_at_lem t) at (stands_piece (entry m k b map) (k + 2) t l (stands_first (joined (k + 2) (entry m k b map)) _ s8));
-        bodies = λ t l. rw (entry_at_lem (k + 2), body_at t (omega arith)) at (stands_piece (body m b map s) (k + 2) t l (stands_second (joined (k + 2) (entry m k b map)) _ s8));
+        bodies = λ t l. rw (entry_at_lem (k + 2), body_at_lem t (omega arith)) at (stands_piece (body m b map s) (k + 2) t l (stands_second (joined (k + 2) (entry m k b map)) _ s8));
       }
 
   pub laid_image : (image : List ℕ) → Laid m k b map s image → image ≡ image_of m k b map s
@@ -101,4 +101,4 @@ module _ (m k b : ℕ) (map : List Bool) (s : List ℕ) (whole : length s ≡ st
       (stands_both (le2 m) _ l.first (stands_both (le2 k) _ l.second (stands_both (le2 b) _ l.third (stands_both (le2 0) _ l.fourth
       (stands_both (joined (k + 2) (entry m k b map)) _
       (stands_each (entry m k b map) (k + 2) (λ t h. rw (entry_at_lem t) (l.entries t h)))
-      (stands_each (body m b map s) (k + 2) (λ t h. rw (entry_at_lem (k + 2), body_at t (omega arith)) (l.bodies t h))))))))
+      (stands_each (body m b map s) (k + 2) (λ t h. rw (entry_at_lem (k + 2), body_at_lem t (omega arith)) (l.bodies t h))))))))

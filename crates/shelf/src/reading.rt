@@ -1,8 +1,8 @@
 // Reading the input: what the count that a read gave means, and the reads one after another.
-ghost use Rattle.std.specs.Prelude.{◌≡◌, ◌+◌, ◌<◌, ◌^◌, length};
+ghost use Rattle.std.specs.Prelude.{◌≡◌, ◌+◌, ◌<◌, ◌^◌, length, pos, negsuc, IfOk, MatchResult};
 ghost use Rattle.shelf.specs.Reading.{input_after, Nears, Taken};
 
-use std::io::{Read, Stdin};
+use std::io::{Error, Read, Stdin};
 
 // What is known of the input: so many bytes were read and there may be more; it has so many bytes; or a read failed.
 #[derive(Clone, Copy)]
@@ -27,15 +27,23 @@ fn after_read(done: usize, got: isize, part: &[u8]) -> Input
     Input::More(done + n)
 }
 
+// The count of a read: how many bytes it moved, or, where it failed, -1.
+fn count_of(read: Result<usize, Error>) -> isize
+    requires { IfOk read (λ n. n < 2 ^ 63) }
+    ensures { MatchResult read (λ n. result ≡ pos n) (λ _. result ≡ negsuc 0) }
+{
+    match read {
+        Ok(n) => n as isize,
+        Err(_) => -1,
+    }
+}
+
 // One read into `part`, which stands after the `done` bytes that were read before.
 fn read_more(from: &mut Stdin, done: usize, part: &mut [u8]) -> Input
     requires { done + length part.old < 2 ^ 64 }
     ensures { Nears done (length part.old) result }
 {
-    let got = match from.read(part) {
-        Ok(n) => n as isize,
-        Err(_) => -1,
-    };
+    let got = count_of(from.read(part));
     after_read(done, got, part)
 }
 

@@ -34,7 +34,7 @@ returns-then-columns-column c =
 pub returns-then-absent-gt2 : goal.returns-then-absent-gt2
 returns-then-absent-gt2 c =
     let good : Lent c.args.m c.args.k c.args.b (length c.args.stripe.now) c.args.map (length c.args.bench.now) c.in-Good.length = lent_good _ _ _ _ _ _ c.judge_lent-judged.result c.judge_lent-judged.ensures c.in-Good.is in
-    show_4 _ _ _ _ _ _ _ good c.if-columns-column.false c.if-absent-gt2.true
+    show_4 _ _ _ _ _ _ _ good (omega arith) c.if-absent-gt2.true
 
 pub overflow_mul-result : goal.overflow_mul-result
 overflow_mul-result c =

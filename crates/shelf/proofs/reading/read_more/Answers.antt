@@ -24,4 +24,4 @@ pub returns : goal.returns
 returns c =
     let a = c.args in
     let read = c.read in
-    near a.done (length a.part.now) (length read.new.buf) (to_z w64 c.match-read.got-bits) c.after_read.result (search rules) c.after_read.ensures
+    near a.done (length a.part.now) (length read.new.buf) _ c.after_read.result (search rules) c.after_read.ensures
