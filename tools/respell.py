@@ -6,7 +6,7 @@ usage: tools/respell.py [--check]      at the top of the repository, after port.
     stripeLength -> stripe_length     depends-other -> depends_other     ⊕-self -> ⊕_self
 
 A name is the repository's own where a file of specs/ or proofs/ declares it. Names that Rattle makes of the source (in proofs/F/Proof.antt,
-Answers.antt, Invariants.antt), names of the library, functions of src/, types and strings keep their spelling. It stops where two names would fall together.
+Answers.antt, Invariants.antt), names of the library, functions of src/, types and strings keep their spelling. It says where two names would fall together.
 """
 import glob
 import os
