@@ -1,5 +1,5 @@
-// Makes maps of places and of any two numbers, most of which lie, asks with them each call that takes a map, and prints what the library answers, one line
-// each. What is printed is compared with the stored text.
+// Makes maps of places and of any two numbers, most of which lie, asks with them each call of evenodd that takes a map, and prints what the library answers,
+// one line each. What is printed is compared with the stored text.
 #![tactic(auto)]
 
 mod asking;
