@@ -1,6 +1,6 @@
 -- Laws of `Exchanged`.
---   exchanged_none, exchanged_one   no byte exchanged, and one more
-use mathlib.Core.Path.{◌≡◌, refl, ap, ap₂, ◌∙◌}
+--   exchanged_one   one byte more exchanged
+use mathlib.Core.Path.{◌≡◌, ap, ap₂, ◌∙◌}
 use mathlib.Core.Logic.{◌≢◌}
 use mathlib.Core.List.{List}
 use Prim.Native.Nat.{ℕ, ◌+◌, ◌<◌}
@@ -10,15 +10,6 @@ use lib.Seq.{get_or-set_same, get_or-set_other}
 use borrow.Author.Count.{below_more}
 use Rattle.parity.specs.Xor.{◌⊕◌}
 use Rattle.cells.specs.Runs.{Exchanged}
-
-pub exchanged_none : (s : List ℕ) (at one two : ℕ) (f : ℕ → ℕ) → Exchanged s s at one two 0 f
-exchanged_none s at one two f = record {
-  size = refl;
-  inside = λ l h. absurd (omega arith);
-  first = λ l h. absurd (omega arith);
-  second = λ l h. absurd (omega arith);
-  others = λ p x y z. refl;
-}
 
 -- what stands in t with byte n of each of three runs set, one run after another; d is what the byte at `at` changes by
 module _ (s t : List ℕ) (at one two n d : ℕ) (f : ℕ → ℕ) (low : at + n < one) (high : one + n < two) (room : two + n < length s) (p : Exchanged s t at one two n f) (change : d ≡ get_or t (at + n) 0 ⊕ f n) where

@@ -2,3 +2,4 @@ pub mod Parts
 pub mod Puts
 pub mod Tells
 pub mod Exchanges
+pub mod Blocks

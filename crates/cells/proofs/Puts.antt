@@ -4,14 +4,14 @@
 --   put_start           a byte of a run that was set from its start
 --   put_next            a second run after the first, which may overlap it
 --   put_same, put_count the same bytes by another name, and so many by another name
---   put_part_lem, put_added a lent part that came back with other bytes, or with something added
+--   put_part_lem        a lent part that came back with other bytes
 --   put_cleared         a lent part that came back cleared
 --   put_copied          a lent part that came back as a run which was set before
 --   put_taken           a lent part that came back as a part of another list
 --   put_again           a run that was set, and then set again to what it held with something added
 --   put_all             the whole run became another one
 --   put_beside          the same byte set in both lists, after the run
---   through_none, through_one   no bytes added from one run to the next and on, and one more of each
+--   through_one         one byte more added from one run to the next, and on
 --   put_then_added      a run that was set, and then added to
 --   added_put           a run added to from its start
 --   added_none, added_both, added_same
@@ -121,14 +121,6 @@ added_put {x} {y} {f} p = record {
   byte = λ l h. let e : 0 + l ≡ l = omega arith in ap (λ (v : ℕ). get_or y v 0) (sym e) ∙ p.inside l h;
 }
 
-pub put_added : (w y : List ℕ) (at e : ℕ) (f : ℕ → ℕ) → at ≤ e → e ≤ length w → Added (part w at e) y f
-    → Put w (put_mid at (e - at) w y) at (e - at) (λ l. get_or w (at + l) 0 ⊕ f l)
-put_added w y at e f order room a = put_part_lem w y at (e - at) (λ l. get_or w (at + l) 0 ⊕ f l) (omega arith) (a.size ∙ size) (λ l h.
-    a.byte l (rw size h) ∙ ap (λ (n : ℕ). n ⊕ f l) (part_at w at e l h))
-  where
-    size : length (part w at e) ≡ e - at
-    size = length-take-le (e - at) _ (simp length-drop (omega arith))
-
 pub put_copied : (w x y z : List ℕ) (at n : ℕ) (f : ℕ → ℕ) → at + length x ≤ length w → n ≡ length x → Put x y 0 (length x) f → z ≡ y
     → Put w (put_mid at n w z) at (length x) f
 put_copied w x y z at n f room e p so =
@@ -166,9 +158,6 @@ put_beside {s} {t} {at} k v past room p = record {
       | yes q ↦ ap (λ (y : ℕ). get_or (set t k v) y 0) q ∙ get_or-set_same t k v 0 (omega (arith, p.size)) ∙ sym (ap (λ (y : ℕ). get_or (set s k v) y 0) q ∙ get_or-set_same s k v 0 room)
       | no ne ↦ get_or-set_other t k x v 0 ne ∙ e ∙ sym (get_or-set_other s k x v 0 ne)
     ]
-
-pub through_none : (s : List ℕ) (from mid to : ℕ) → Through s s from mid to 0
-through_none s from mid to = record { between = s; first = put_none s mid _; second = put_none s to _ }
 
 pub through_one : (s t : List ℕ) (from mid to n l x : ℕ) → from + n ≤ mid → to + n ≤ mid → mid + n ≤ length s → (from < to → from + n ≤ to) → l < n
     → x ≡ get_or t (mid + l) 0 ⊕ get_or t (from + l) 0 → Through s t from mid to l

@@ -6,9 +6,10 @@
 --   Exchanged s t at one two n f   s became t: the n bytes at `at` became f 0, f 1, …; what they changed by was added to the n bytes at `one` and to those at
 --                    `two`; all others are as they were
 --   Tells r n f      r is 0 exactly when f 0 to f (n - 1) are
---   First r n f      r is the first number below n at which f is not zero; n where there is none
+--   FirstAt n f r    r is the first number below n at which f is not zero
+--   First r n f      r is that number; None where there is none
 --   Zeros x          every byte of x is zero
-use Rattle.std.specs.Prelude.{◌≡◌, List, ℕ, ◌+◌, ◌≤◌, ◌<◌, length, get_or}
+use Rattle.std.specs.Prelude.{◌≡◌, ◌≢◌, List, ℕ, ◌+◌, ◌≤◌, ◌<◌, length, get_or, Option, MatchOption}
 use Rattle.parity.specs.Xor.{◌⊕◌}
 
 pub record Added (x y : List ℕ) (f : ℕ → ℕ) : Type 0 where
@@ -37,10 +38,13 @@ pub record Tells (r n : ℕ) (f : ℕ → ℕ) : Type 0 where
   pub none : r ≡ 0 → (l : ℕ) → l < n → f l ≡ 0
   pub all : ((l : ℕ) → l < n → f l ≡ 0) → r ≡ 0
 
-pub record First (r n : ℕ) (f : ℕ → ℕ) : Type 0 where
-  pub within : r ≤ n
+pub record FirstAt (n : ℕ) (f : ℕ → ℕ) (r : ℕ) : Type 0 where
+  pub within : r < n
   pub before : (l : ℕ) → l < r → f l ≡ 0
-  pub there : r < n → f r ≡ 0 → ⊥
+  pub there : f r ≢ 0
+
+abbrev pub First : Option ℕ → ℕ → (ℕ → ℕ) → Type 0
+First r n f = MatchOption r ((l : ℕ) → l < n → f l ≡ 0) (FirstAt n f)
 
 pub record Zeros (x : List ℕ) : Type 0 where
   pub each : (l : ℕ) → l < length x → get_or x l 0 ≡ 0

@@ -1,5 +1,6 @@
 -- Why a changed cell keeps the amounts: what is added to it is added to every parity cell in whose equation it stands.
 --   row_within, column_within   where cells lie
+--   copied          a cell that was copied
 --   same_diagonal   a row of a column lies on one diagonal
 --   last_back       S has row m - 1 - t of column t
 --   stands_each, stands_own     a cell stands in every equation of D where its diagonal is that of S, and else in that of its diagonal
@@ -9,6 +10,7 @@
 --   apart           no byte of a cell is one of another's
 --   changed_off_s, changed_on_s, changed_owing   what the code leaves of a stripe, off the diagonal of S and on it, and on it where D's cells are owed what they
 --                   would get
+use borrow.Rule.Slice.PartMut.{put_mid}
 use mathlib.Core.Path.{◌≡◌, refl, sym, ap, ap₂, subst, ◌∙◌}
 use mathlib.Core.Logic.{◌≢◌}
 use mathlib.Core.Bool.{Bool, true, false, cond, ◌||◌}
@@ -28,9 +30,9 @@ use Rattle.parity.proofs.Xor.{⊕_assoc, ⊕_self, ⊕_zero, zero_⊕, ⊕_cance
 use Rattle.parity.proofs.Sum.{sum_add, sum_one}
 use Rattle.parity.proofs.Cells.{diagonal, S_diagonal, cell_real, cell_below, cell_same}
 use Rattle.parity.proofs.Change.{depends_itself, depends_h, depends_d, depends_none, depends_other, by_cell}
-use Rattle.cells.specs.Runs.{Put, Exchanged}
+use Rattle.cells.specs.Runs.{Added, Put, Exchanged}
 use Rattle.cells.proofs.Parts.{parts_end, by_order}
-use Rattle.cells.proofs.Puts.{put_start}
+use Rattle.cells.proofs.Puts.{put_count, put_part_lem}
 use Rattle.lines.specs.declared.Grid.{Grid}
 use Rattle.lines.specs.Lines.{Sized, Laid}
 use Rattle.lines.specs.Rows.{Lined}
@@ -48,6 +50,13 @@ module _ {g : Grid} {s : List ℕ} (laid : Laid g s) where
   -- column x ends within the stripe
   pub column_within : (x : ℕ) → x < g.k + 2 → x * g.column + g.column ≤ length s
   column_within x h = omega (arith, parts_end g.column h, laid.whole)
+
+-- ---- a cell that was copied
+
+-- a lent cell that came back as another
+pub copied : (w y cell : List ℕ) (at b : ℕ) → at + b ≤ length w → length cell ≡ b → y ≡ cell → Put w (put_mid at (at + b - at) w y) at b (λ l. get_or cell l 0)
+copied w y cell at b room size e =
+    put_count (put_part_lem w y at (at + b - at) (λ l. get_or cell l 0) (omega arith) (ap length e ∙ size ∙ omega arith) (λ l h. ap (λ (x : List ℕ). get_or x l 0) e)) (omega arith)
 
 -- ---- which equations a cell stands in
 
@@ -345,9 +354,9 @@ module _ {m b c : ℕ} (z : Sized m b c) (k t i : ℕ) (s v new : List ℕ) (few
         ∙ ap₂ ◌⊕◌ (ap (λ (n : ℕ). get_or s₂ n 0) (sym place) ∙ sym (at_row z s₂ (k + 1) l r) ∙ d_first l r hl hr) (still_delta l hl)))
 
     -- where D's cells are owed it, the third step writes nothing
-    pub changed_owing : (owed debt : List ℕ) → s₃ ≡ s₂ → Put owed debt 0 b (λ l. get_or owed (0 + l) 0 ⊕ get_or s₂ (t * c + i * b + l) 0)
+    pub changed_owing : (owed debt : List ℕ) → s₃ ≡ s₂ → length owed ≡ b → Added owed debt (λ l. get_or s₂ (t * c + i * b + l) 0)
         → OncePaid m k b owed s debt v (CellChanged m k b t i new)
-    changed_owing owed debt none gathered = record {
+    changed_owing owed debt none full gathered = record {
       size = size;
       room = gathered.size;
       holds = λ p q before after.
@@ -369,4 +378,4 @@ module _ {m b c : ℕ} (z : Sized m b c) (k t i : ℕ) (s v new : List ℕ) (few
         size = fourth.size ∙ ap length none ∙ second.size ∙ first.size
 
         owes : (l : ℕ) → l < b → get_or debt l 0 ≡ get_or owed l 0 ⊕ delta l
-        owes l hl = let e : 0 + l ≡ l = omega arith in put_start gathered l hl ∙ ap₂ ◌⊕◌ (ap (λ (n : ℕ). get_or owed n 0) e) (still_delta l hl)
+        owes l hl = gathered.byte l (omega arith) ∙ ap (λ (x : ℕ). get_or owed l 0 ⊕ x) (still_delta l hl)

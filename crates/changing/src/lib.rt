@@ -9,6 +9,7 @@ ghost use Rattle.std.specs.Prelude.{◌≡◌, ◌+◌, ◌-◌, ◌*◌, ◌≤
 ghost use Rattle.parity.specs.Equations.{back};
 ghost use Rattle.parity.specs.Change.{CellChanged};
 ghost use Rattle.lines.specs.Lines.{Laid};
+ghost use Rattle.changing.specs.Steps.{DifferenceAdded};
 
 use lines::Grid;
 pub use many_cells::change_cells;
@@ -37,6 +38,20 @@ fn change_off_s(s: &mut [u8], g: Grid, t: usize, i: usize, own: usize, cell: &[u
     cells::exchange(s, t * c + row, h + row, h + c + own * b, cell);
 }
 
+// The cell in row i of column t comes to hold the difference of its old bytes and those of `cell`, and H's cell in its row gets that added. Where the cell stands.
+fn add_difference(s: &mut [u8], g: Grid, t: usize, i: usize, cell: &[u8]) -> usize
+    requires { Laid g s.old × (t < g.k) × (i < g.m - 1) × (length cell.now ≡ g.b) }
+    ensures { (result ≡ t * g.column + i * g.b) × DifferenceAdded g t i cell.now s.old s.new }
+{
+    let b = g.b;
+    let c = g.column;
+    let row = i * b;
+    let at = t * c + row;
+    cells::add_run(s, at, cell, 0, b);
+    cells::add_within(s, g.k * c + row, at, b);
+    at
+}
+
 // On the diagonal of S: the cell in row i of column t becomes `cell`. One cell of H changes with it, and every cell of D. For a while the cell holds the
 // difference of its old bytes and its new ones, and that is what they get added.
 fn change_on_s(s: &mut [u8], g: Grid, t: usize, i: usize, cell: &[u8])
@@ -44,14 +59,10 @@ fn change_on_s(s: &mut [u8], g: Grid, t: usize, i: usize, cell: &[u8])
     ensures { CellChanged g.m g.k g.b t i cell.now s.old s.new }
 {
     let b = g.b;
-    let c = g.column;
-    let row = i * b;
-    let at = t * c + row;
-    let h = g.k * c;
-    cells::add_run(s, at, cell, 0, b);
-    cells::add_within(s, h + row, at, b);
-    lines::add_to_each(s, h + c, g.m - 1, b, at);
-    cells::copy_into(&mut s[at..at + b], cell);
+    let d = g.k * g.column + g.column;
+    let at = add_difference(s, g, t, i, cell);
+    lines::add_to_each(s, d, g.m - 1, b, at);
+    s[at..at + b].copy_from_slice(cell);
 }
 
 // The cell in row i of column t, which is a data column, becomes `cell`.

@@ -8,7 +8,7 @@ ghost use Rattle.lines.specs.Lines.{Laid};
 ghost use Rattle.changing.specs.Items.{ItemsFit};
 ghost use Rattle.changing.specs.Owed.{Paid, OncePaid};
 
-use crate::{change_off_s, diagonal_of};
+use crate::{add_difference, change_off_s, diagonal_of};
 use lines::Grid;
 
 // On the diagonal of S: the cell in row i of column t becomes `cell`. One cell of H changes with it, and what it changes by is added to `owed`, not to every cell of
@@ -18,13 +18,9 @@ fn change_owing(s: &mut [u8], owed: &mut [u8], g: Grid, t: usize, i: usize, cell
     ensures { OncePaid g.m g.k g.b owed.old s.old owed.new s.new (CellChanged g.m g.k g.b t i cell.now) }
 {
     let b = g.b;
-    let c = g.column;
-    let row = i * b;
-    let at = t * c + row;
-    cells::add_run(s, at, cell, 0, b);
-    cells::add_within(s, g.k * c + row, at, b);
-    cells::add_run(owed, 0, s, at, b);
-    cells::copy_into(&mut s[at..at + b], cell);
+    let at = add_difference(s, g, t, i, cell);
+    cells::xor_into(owed, &s[at..at + b]);
+    s[at..at + b].copy_from_slice(cell);
 }
 
 // The cell in row i of column t, which is a data column, becomes `cell`, but for what D's cells are owed.
@@ -52,10 +48,12 @@ fn change_items(
     requires { Laid g s.old × (length owed.old ≡ g.b) × ItemsFit g columns.now rows.now cells.now }
     ensures { OncePaid g.m g.k g.b owed.old s.old owed.new s.new (CellsChanged g.m g.k g.b columns.now rows.now cells.now (length columns.now)) }
 {
+    // The lists stand beside one another as the C interface has them: one is gone through, the others are asked for the same item. Of a loop over three lists
+    // zipped less is known.
     let b = g.b;
-    for n in 0..columns.len() {
+    for (n, &column) in columns.iter().enumerate() {
         let at = n * b;
-        change_item(s, owed, g, columns[n], rows[n], &cells[at..at + b]);
+        change_item(s, owed, g, column, rows[n], &cells[at..at + b]);
     }
 }
 
@@ -64,6 +62,7 @@ fn pay(s: &mut [u8], owed: &[u8], g: Grid)
     requires { Laid g s.old × (length owed.now ≡ g.b) }
     ensures { Paid g.m g.k g.b owed.now s.old s.new }
 {
+    // By index: of a loop over `s[d..].chunks_exact_mut(b)` nothing is known of the bytes after it but how many they are.
     let b = g.b;
     let d = g.k * g.column + g.column;
     for i in 0..g.m - 1 {

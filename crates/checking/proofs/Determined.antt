@@ -1,46 +1,37 @@
 -- Each promise determines the answer: the proofs of the statements in specs/Determined. A list of rules gives one verdict.
-use mathlib.Core.Path.{◌≡◌, refl, sym, ap, ap₂, ◌∙◌}
+use mathlib.Core.Path.{◌≡◌, refl, sym, ap₂, ◌∙◌}
+use lib.ListN.{length}
+use Rattle.std.specs.Prelude.{Result, Ok}
+use Rattle.refusals.specs.declared.Refusal.{Refusal}
 use Rattle.inputs.specs.Rules.{stripe_rules}
-use Rattle.refusals.proofs.Rules.{passes_not, refuse_one, gives_one}
+use Rattle.refusals.proofs.Rules.{both_answers}
 use Rattle.checking.specs.declared.checks.Checked.{Checked}
 use Rattle.checking.specs.declared.checks.Checked.TheVariants as checked
-use Rattle.checking.specs.Determined.{ChecksOne, LocatesOne}
-use lib.ListN.{length}
-use Rattle.refusals.specs.Refusals.{Gives, Verdict}
 use Rattle.checking.specs.declared.locates.Located.{Located}
 use Rattle.checking.specs.declared.locates.Located.TheVariants as located
 use Rattle.checking.specs.Checks.{Checks}
 use Rattle.checking.specs.Locates.{locate_rules, Locates}
+use Rattle.checking.specs.Determined.{ChecksOne, LocatesOne}
 
 pub checks_one : ChecksOne
 unfolding ChecksOne
-checks_one m k b s r q p h = go r q p h
+checks_one m k b s r q u v =
+    both_answers (stripe_rules m k b (length s)) (λ r q. Checks m k b s r → Checks m k b s q → r ≡ q) passed (λ f _ _. refl) r q u.told v.told u v
   where
-    answered : (v w : Verdict) → Gives (stripe_rules m k b (length s)) v → Gives (stripe_rules m k b (length s)) w → v ≡ w
-    answered v w = gives_one (stripe_rules m k b (length s)) v w
-
-    go : (r q : Checked) → Checks m k b s r → Checks m k b s q → r ≡ q
-    go checked.Intact q p h = sym ((h.counted (answered _ _ h.told p.told)).intact.1 ((p.counted refl).intact.0 refl))
-    go checked.Blank q p h = sym ((h.counted (answered _ _ h.told p.told)).blank.1 ((p.counted refl).blank.0 refl))
-    go (checked.Broken x y) checked.Intact p h = (p.counted refl).intact.1 ((h.counted refl).intact.0 refl)
-    go (checked.Broken x y) checked.Blank p h = (p.counted refl).blank.1 ((h.counted refl).blank.0 refl)
-    go (checked.Broken x y) (checked.Broken u v) p h =
-        let c = p.counted refl in let d = h.counted refl in ap₂ checked.Broken (c.rows ∙ sym d.rows) (c.diagonals ∙ sym d.diagonals)
-    go (checked.Broken x y) (checked.Refused g) p h = absurd (passes_not g (answered _ _ p.told h.told))
-    go (checked.Refused f) checked.Intact p h = absurd (passes_not f (answered _ _ h.told p.told))
-    go (checked.Refused f) checked.Blank p h = absurd (passes_not f (answered _ _ h.told p.told))
-    go (checked.Refused f) (checked.Broken u v) p h = absurd (passes_not f (answered _ _ h.told p.told))
-    go (checked.Refused f) (checked.Refused g) p h = ap checked.Refused (refuse_one f g (answered _ _ p.told h.told))
+    passed : (x y : Checked) → Checks m k b s (Ok x) → Checks m k b s (Ok y) → ◌≡◌ {A = Result Checked Refusal} (Ok x) (Ok y)
+    passed checked.Intact y p h = sym ((h.counted refl).intact.1 ((p.counted refl).intact.0 refl))
+    passed checked.Blank y p h = sym ((h.counted refl).blank.1 ((p.counted refl).blank.0 refl))
+    passed (checked.Broken x y) checked.Intact p h = (p.counted refl).intact.1 ((h.counted refl).intact.0 refl)
+    passed (checked.Broken x y) checked.Blank p h = (p.counted refl).blank.1 ((h.counted refl).blank.0 refl)
+    passed (checked.Broken x y) (checked.Broken u v) p h =
+        let c = p.counted refl in let d = h.counted refl in ap₂ (λ x y. Ok (checked.Broken x y)) (c.rows ∙ sym d.rows) (c.diagonals ∙ sym d.diagonals)
 
 pub locates_one : LocatesOne
 unfolding LocatesOne
-locates_one m k b s r q p h = go r q p h
+locates_one m k b s r q u v =
+    both_answers (locate_rules m k b s) (λ r q. Locates m k b s r → Locates m k b s q → r ≡ q) passed (λ f _ _. refl) r q u.told v.told u v
   where
-    go : (r q : Located) → Locates m k b s r → Locates m k b s q → r ≡ q
-    go located.Intact q p h = sym ((h.found (gives_one (locate_rules m k b s) _ _ h.told p.told)).intact.1 ((p.found refl).intact.0 refl))
-    go located.Blank q p h = sym ((h.found (gives_one (locate_rules m k b s) _ _ h.told p.told)).blank.1 ((p.found refl).blank.0 refl))
-    go (located.Column u) q p h = sym (((h.found (gives_one (locate_rules m k b s) _ _ h.told p.told)).named u).1 (((p.found refl).named u).0 refl))
-    go (located.Refused f) located.Intact p h = absurd (passes_not f (gives_one (locate_rules m k b s) _ _ h.told p.told))
-    go (located.Refused f) located.Blank p h = absurd (passes_not f (gives_one (locate_rules m k b s) _ _ h.told p.told))
-    go (located.Refused f) (located.Column v) p h = absurd (passes_not f (gives_one (locate_rules m k b s) _ _ h.told p.told))
-    go (located.Refused f) (located.Refused g) p h = ap located.Refused (refuse_one f g (gives_one (locate_rules m k b s) _ _ p.told h.told))
+    passed : (x y : Located) → Locates m k b s (Ok x) → Locates m k b s (Ok y) → ◌≡◌ {A = Result Located Refusal} (Ok x) (Ok y)
+    passed located.Intact y p h = sym ((h.found refl).intact.1 ((p.found refl).intact.0 refl))
+    passed located.Blank y p h = sym ((h.found refl).blank.1 ((p.found refl).blank.0 refl))
+    passed (located.Column u) y p h = sym (((h.found refl).named u).1 (((p.found refl).named u).0 refl))

@@ -34,6 +34,7 @@ use Rattle.refusals.specs.Refusals.{Verdict, pass, refuse, Gives}
 use Rattle.inputs.specs.Rules.{unmendable, stripe_rules}
 use Rattle.refusals.proofs.Rules.{passes_not, gives_first, gives_next, gives_after, gives_passed}
 use Rattle.inputs.proofs.Stripe.{stripe_given, stripe_passed}
+use Rattle.std.specs.Prelude.{Ok, Err}
 use Rattle.checking.specs.declared.locates.Located.TheVariants as located
 use Rattle.checking.specs.Locates.{locate_rules, OneDiffers, Locates}
 
@@ -45,7 +46,7 @@ not_one m k b h s x u hu vs vx d =
     let e : s ≡ x = near m k b h s x vs vx (let l = few_differ m k b u s x d in omega arith) in
     true≢false (sym (eq-eqb u u refl) ∙ sym (d.at u hu) ∙ ap (λ q. differs m b s q u) (sym e) ∙ column_same m b s s u (λ l i hl hi. refl))
 
-pub locate_refused : {m k b : ℕ} {s : List ℕ} {f : Refusal} → Gives (locate_rules m k b s) (refuse f) → Locates m k b s (located.Refused f)
+pub locate_refused : {m k b : ℕ} {s : List ℕ} {f : Refusal} → Gives (locate_rules m k b s) (refuse f) → Locates m k b s (Err f)
 locate_refused {f = f} told = record { told = told; found = λ q. absurd (passes_not f (sym q)) }
 
 module _ (m k b : ℕ) (h : Shape m k b) (s : List ℕ) where
@@ -60,7 +61,7 @@ module _ (m k b : ℕ) (h : Shape m k b) (s : List ℕ) where
     rules : {v : Verdict} → Gives (unmendable m k b s ∷ []) v → Gives (locate_rules m k b s) v
     rules g = gives_after (stripe_rules m k b (length s)) (unmendable m k b s ∷ []) _ (stripe_passed m k b (length s) h st.whole) g
 
-    pub locate_nobody : ((x : ℕ) → x < k + 2 → FitsBut m k b x s → ⊥) → Locates m k b s (located.Refused Unmendable)
+    pub locate_nobody : ((x : ℕ) → x < k + 2 → FitsBut m k b x s → ⊥) → Locates m k b s (Err Unmendable)
     locate_nobody none = locate_refused (rules (gives_first (none_near none)))
 
     module _ (sound : Sound m k b s) where
@@ -75,7 +76,7 @@ module _ (m k b : ℕ) (h : Shape m k b) (s : List ℕ) where
       none_named : (u : ℕ) → OneDiffers m k b s u → ⊥
       none_named u o = not_one m k b h s o.other u o.inside valid o.valid o.differ
 
-      pub locate_intact : (Blank m k b s → ⊥) → Locates m k b s located.Intact
+      pub locate_intact : (Blank m k b s → ⊥) → Locates m k b s (Ok located.Intact)
       locate_intact n = record {
         told = valid_passes;
         found = λ _. record {
@@ -85,7 +86,7 @@ module _ (m k b : ℕ) (h : Shape m k b) (s : List ℕ) where
         };
       }
 
-    pub locate_blank : Blank m k b s → Locates m k b s located.Blank
+    pub locate_blank : Blank m k b s → Locates m k b s (Ok located.Blank)
     locate_blank z =
         let sound = blank_holds m k b s z in
         record {
@@ -126,7 +127,7 @@ module _ (m k b : ℕ) (h : Shape m k b) (s : List ℕ) where
           so true e = refl
           so false e = absurd (not_same e)
 
-      pub locate_column : Locates m k b s (located.Column u)
+      pub locate_column : Locates m k b s (Ok (located.Column u))
       unfolding OneWrong
       locate_column =
           let o = one_differs in
@@ -138,7 +139,7 @@ module _ (m k b : ℕ) (h : Shape m k b) (s : List ℕ) where
               named = λ w. (
                 λ e. let q : u ≡ w = cc in rw q at o,
                 λ p.
-                    ap located.Column (one_wrong m k b h s o.other p.other u w inside p.inside o.valid p.valid o.differ p.differ).0,
+                    ap (λ v. Ok (located.Column v)) (one_wrong m k b h s o.other p.other u w inside p.inside o.valid p.valid o.differ p.differ).0,
               );
             };
           }

@@ -1,29 +1,27 @@
 // Check.
-ghost use Rattle.std.specs.Prelude.{◌≡◌};
+ghost use Rattle.std.specs.Prelude.{◌≡◌, Ok};
 ghost use Rattle.checking.specs.Checks.{found_of, Checks, CountsSay};
 
 use crate::blank::is_blank;
 use counting::Counts;
-use inputs::{Judged, judge_stripe};
+use inputs::{Shape, judge_stripe};
 use lines::Grid;
 use refusals::Refusal;
 
-// What check answers: the stripe is intact, or blank, or so many rows and diagonals break; or why not.
-#[derive(Clone, Copy)]
+// What check finds: the stripe is intact, or blank, or so many rows and diagonals break.
+#[derive(Clone, Copy, Debug, PartialEq, Eq)]
 pub enum Checked {
     Intact,
     Blank,
     Broken { rows: usize, diagonals: usize },
-    Refused(Refusal),
 }
 
 impl Checked {
-    // What was found, by number: 1 for an intact stripe, 2 for a blank one, 3 for a broken one, 0 for a refusal.
+    // What was found, by number, as the C interface has it: 1 for an intact stripe, 2 for a blank one, 3 for a broken one.
     pub fn found(self) -> u8
-        ensures { result ≡ found_of self }
+        ensures { result ≡ found_of (Ok self) }
     {
         match self {
-            Checked::Refused(_) => 0,
             Checked::Intact => 1,
             Checked::Blank => 2,
             Checked::Broken {
@@ -51,15 +49,13 @@ fn told(counts: Counts) -> Checked
 
 // Counts the rows whose H equation breaks and the numbers whose D equation breaks, and tells a blank stripe, which breaks none, from an intact one. Nothing is
 // written.
-pub fn check(m: usize, k: usize, b: usize, stripe: &[u8]) -> Checked
-    ensures { Checks m k b stripe.now result }
+pub fn check(shape: Shape, stripe: &[u8]) -> Result<Checked, Refusal>
+    ensures { Checks shape.m shape.k shape.b stripe.now result }
 {
-    let judged = judge_stripe(m, k, b, stripe.len());
-    let Judged::Good { column } = judged else {
-        return Checked::Refused(judged.refusal());
-    };
+    let Shape { m, k, b } = shape;
+    let column = judge_stripe(shape, stripe.len())?;
     if is_blank(stripe, k * column) {
-        return Checked::Blank;
+        return Ok(Checked::Blank);
     }
-    told(counting::count_broken(stripe, Grid { m, k, b, column }))
+    Ok(told(counting::count_broken(stripe, Grid { m, k, b, column })))
 }

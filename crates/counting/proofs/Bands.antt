@@ -1,14 +1,14 @@
 -- Bands: the first cells of a buffer, each set to what a cell after them holds plus a line, group of columns after group.
---   InBand                 the cells of a band after the columns below t: in_band_begin, in_band_next
+--   InBand                 the cells of a band after the columns below t: in_band_next
 --   band_at                where the cells of a band stand
 --   band_found             what was found of the cells of a band is found of its lines
 --   begin_first, begin_next   what a cell begins with, by the case that the code takes
 --   tells_part             what a lent cell's bytes or-ed together tell of
-use mathlib.Core.Path.{◌≡◌, refl, sym, ap, ap₂, ◌∙◌, subst}
+use mathlib.Core.Path.{◌≡◌, sym, ap, ap₂, ◌∙◌, subst}
 use mathlib.Core.Logic.{◌≢◌}
 use mathlib.Core.Bool.{Bool, cond}
 use mathlib.Core.List.{List}
-use Prim.Native.Nat.{ℕ, ◌+◌, ◌*◌, ◌-◌, ◌≤◌, ◌<◌}
+use Prim.Native.Nat.{ℕ, ◌+◌, ◌*◌, ◌≤◌, ◌<◌}
 use native.Mathlib.Decide.{ℕ_discrete}
 use native.Mathlib.Omega.{arith}
 use lib.Dec.{eqb}
@@ -20,14 +20,14 @@ use Rattle.parity.proofs.Xor.{⊕_assoc}
 use Rattle.cells.specs.Runs.{Tells}
 use Rattle.cells.proofs.Parts.{part, part_at, part_size}
 use Rattle.cells.proofs.Tells.{tells_same}
+use Rattle.lines.specs.declared.Columns.{Columns}
 use Rattle.lines.specs.declared.Grid.{Grid}
 use Rattle.lines.specs.Rows.{Lined}
 use Rattle.lines.proofs.Rows.{lined_same}
 use Rattle.sums.specs.Sums.{begun}
 use Rattle.sums.proofs.Sweeps.{begun_first, begun_next}
 use Rattle.counting.specs.declared.testing.Broken.{Broken}
-use Rattle.counting.specs.declared.testing.Piece.{Piece}
-use Rattle.counting.specs.Counting.{columns_of, piece_of, below, Found}
+use Rattle.counting.specs.Counting.{piece_of, Found}
 use Rattle.counting.proofs.Buts.{but_join}
 use Rattle.counting.proofs.Found.{found_cong}
 
@@ -40,33 +40,30 @@ module _ (seed to : ℕ) {begin x : ℕ} where
 
 module _ (g : Grid) (s : List ℕ) (u first n seed : ℕ) where
   -- the columns from x up to y
-  abbrev pub over : ℕ → ℕ → Piece
-  over x y = record { u = u; d = first; from = x; to = y }
+  abbrev pub over : ℕ → ℕ → Columns
+  over x y = record { from = x; to = y; u = u; v = u }
 
   pub record InBand (w o : List ℕ) (t : ℕ) : Type 0 where
     pub none : t ≡ 0 → o ≡ w
-    pub some : t ≢ 0 → Lined n g.b 0 w o (λ r l. get_or w (seed + l) 0 ⊕ piece_of g s (below (over 0 t) r) l)
+    pub some : t ≢ 0 → Lined n g.b 0 w o (λ r l. get_or w (seed + l) 0 ⊕ piece_of g s (first + r) (over 0 t) l)
     pub size : length o ≡ length w
 
-  pub in_band_begin : (w : List ℕ) → InBand w w 0
-  in_band_begin w = record { none = λ h. refl; some = λ h. absurd (h refl); size = refl }
-
   pub in_band_next : (w o q : List ℕ) (t e : ℕ) → t < e → InBand w o t
-      → Lined n g.b 0 o q (λ r l. begun (columns_of (over t e)) o seed (r * g.b) l ⊕ piece_of g s (below (over t e) r) l) → InBand w q e
+      → Lined n g.b 0 o q (λ r l. begun (over t e) o seed (r * g.b) l ⊕ piece_of g s (first + r) (over t e) l) → InBand w q e
   in_band_next w o q t e h p f = record {
     none = λ z. absurd (omega arith);
     some = λ _. elim (ℕ_discrete t 0) [
       | yes z ↦
-          subst (λ (x : List ℕ). Lined n g.b 0 x q (λ r l. get_or w (seed + l) 0 ⊕ piece_of g s (below (over 0 e) r) l)) (p.none z) (lined_same f (λ r l hr hl.
-          ap₂ ◌⊕◌ (begun_first (columns_of (over t e)) seed (r * g.b) l o z ∙ ap (λ (x : List ℕ). get_or x (seed + l) 0) (p.none z)) (ap (λ (x : ℕ). piece_of g s (below (over x e) r) l) z)))
+          subst (λ (x : List ℕ). Lined n g.b 0 x q (λ r l. get_or w (seed + l) 0 ⊕ piece_of g s (first + r) (over 0 e) l)) (p.none z) (lined_same f (λ r l hr hl.
+          ap₂ ◌⊕◌ (begun_first (over t e) seed (r * g.b) l o z ∙ ap (λ (x : List ℕ). get_or x (seed + l) 0) (p.none z)) (ap (λ (x : ℕ). piece_of g s (first + r) (over x e) l) z)))
       | no z ↦
           let a = p.some z in record {
             size = f.size ∙ a.size;
             inside = λ r l hr hl.
                 let x : r * g.b + l ≡ 0 + (r * g.b + l) = omega arith in
                 f.inside r l hr hl
-                ∙ ap (λ (y : ℕ). y ⊕ piece_of g s (below (over t e) r) l) (begun_next (columns_of (over t e)) seed (r * g.b) l o z ∙ ap (λ (y : ℕ). get_or o y 0) x ∙ a.inside r l hr hl)
-                ∙ ⊕_assoc (get_or w (seed + l) 0) (piece_of g s (below (over 0 t) r) l) (piece_of g s (below (over t e) r) l)
+                ∙ ap (λ (y : ℕ). y ⊕ piece_of g s (first + r) (over t e) l) (begun_next (over t e) seed (r * g.b) l o z ∙ ap (λ (y : ℕ). get_or o y 0) x ∙ a.inside r l hr hl)
+                ∙ ⊕_assoc (get_or w (seed + l) 0) (piece_of g s (first + r) (over 0 t) l) (piece_of g s (first + r) (over t e) l)
                 ∙ ap (λ (y : ℕ). get_or w (seed + l) 0 ⊕ y) (but_join g.m g.k (lane g.m g.b s l) u (first + r) t e z);
             before = λ x hx. f.before x hx ∙ a.before x hx;
             after = λ x hx. f.after x hx ∙ a.after x hx;

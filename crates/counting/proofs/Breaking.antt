@@ -1,11 +1,11 @@
 -- Cells at places that were listed, and counting what is not zero.
---   listed_total, listed_in   places that were listed first, lent as a part: what their cells add up to, and that they end within the bytes
+--   listed_total   places that were listed first, lent as a part: what their cells add up to
 --   breaking_zero, zero_breaking   nothing is counted exactly where all is zero
 --   breaking-…                one line more, the same bytes by another name, and more lines after the first
 use mathlib.Core.Path.{◌≡◌, refl, sym, ap, ◌∙◌}
 use mathlib.Core.Bool.{Bool, true, false, cond, not}
 use mathlib.Core.List.{List}
-use Prim.Native.Nat.{ℕ, zero, suc, ◌+◌, ◌-◌, ◌≤◌, ◌<◌}
+use Prim.Native.Nat.{ℕ, zero, suc, ◌+◌, ◌≤◌, ◌<◌}
 use native.Mathlib.Numerals.{add-one}
 use native.Mathlib.Omega.{arith}
 use lib.ListN.{length}
@@ -17,8 +17,8 @@ use Rattle.parity.proofs.Xor.{zero_⊕}
 use Rattle.parity.proofs.Count.{count_cong, none_pass, all_fail, some_cong, some_false, false_some}
 use Rattle.cells.specs.Runs.{Tells}
 use Rattle.cells.proofs.Parts.{part}
-use Rattle.lines.specs.Places.{total, Within, Listed}
-use Rattle.lines.proofs.Places.{total_none, total_part, within_part}
+use Rattle.lines.specs.Places.{total, Listed}
+use Rattle.lines.proofs.Places.{total_none, total_part}
 use Rattle.counting.specs.Counting.{breaking}
 
 -- ---- places
@@ -29,9 +29,6 @@ module _ {b z n more : ℕ} {at at' : List ℕ} {f : List ℕ → ℕ → ℕ} (
 
   pub listed_total : (s : List ℕ) (l : ℕ) → total (part at' 0 n) (length (part at' 0 n)) s l ≡ f s l
   listed_total s l = total_part at' n listed_room s l ∙ p.sums s l ∙ ap (λ (x : ℕ). x ⊕ f s l) (total_none at s l) ∙ zero_⊕ (f s l)
-
-  pub listed_in : (y : ℕ) → z ≤ y → Within (part at' 0 n) (length (part at' 0 n)) b y
-  listed_in y h = within_part at' n listed_room b y (p.within y h (λ x k. absurd (omega arith)))
 
 -- ---- counting
 

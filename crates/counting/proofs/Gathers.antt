@@ -1,10 +1,9 @@
 -- Laws of `Gathered`: what is or-ed into a run of bytes, block after block, and told of at the end.
---   gathered_none, gathered_next   nothing, and a second run after the first, which may overlap it
---   gathered_same                  the same bytes by another name
+--   gathered_next                  a second run after the first, which may overlap it
 --   gathered_tells                 what was gathered into a clear run, or-ed together, tells of all of it
 --   ored v y l n                   v and the bytes of y at l, 16 + l, … up to n * 16 + l, or-ed together
 --   gathered_parts                 eight parts of 16 bytes, each or-ed into the run byte for byte
-use mathlib.Core.Path.{◌≡◌, refl, sym, ap, ◌∙◌}
+use mathlib.Core.Path.{◌≡◌, sym, ap, ◌∙◌}
 use mathlib.Core.List.{List}
 use Prim.Native.Nat.{ℕ, zero, suc, ◌+◌, ◌*◌, ◌-◌, ◌/◌, ◌%◌, ◌≤◌, ◌<◌}
 use native.Mathlib.Nat.{le_refl}
@@ -17,25 +16,15 @@ use Rattle.cells.proofs.Puts.{put_start}
 use Rattle.cells.proofs.Tells.{or_left, or_right, or_none}
 use Rattle.counting.specs.Gather.{Clear, Gathered}
 
-pub gathered_none : (x : List ℕ) (f : ℕ → ℕ) → Gathered x x 0 f
-gathered_none x f = record { size = refl; none = λ z. (z, λ l h. absurd (omega arith)); all = λ z _. z }
-
--- after the first j, n from k on, which may overlap them
-pub gathered_next : {x y z : List ℕ} (j k n : ℕ) (f : ℕ → ℕ) → k ≤ j → j ≤ k + n → Gathered x y j f → Gathered y z n (λ l. f (k + l)) → Gathered x z (k + n) f
-gathered_next j k n f h₁ h₂ p q = record {
+-- after the first j, n from k on, which may overlap them, up to e
+pub gathered_next : {x y z : List ℕ} (j k n e : ℕ) (f : ℕ → ℕ) → k ≤ j → j ≤ e → k + n ≡ e → Gathered x y j f → Gathered y z n (λ l. f (k + l)) → Gathered x z e f
+gathered_next j k n e f h₁ h₂ h₃ p q = record {
   size = q.size ∙ p.size;
-  none = λ e.
-      let u = q.none e in
+  none = λ clear.
+      let u = q.none clear in
       let v = p.none u.0 in
       (v.0, λ l h. by_order (f l ≡ 0) l k (λ b. v.1 l (omega arith)) (λ b. let d : l ≡ k + (l - k) = omega arith in ap f d ∙ u.1 (l - k) (omega arith)));
-  all = λ e so. q.all (p.all e (λ l h. so l (omega arith))) (λ l h. so (k + l) (omega arith));
-}
-
-pub gathered_same : {x y : List ℕ} {n : ℕ} {f g : ℕ → ℕ} → Gathered x y n f → ((l : ℕ) → l < n → f l ≡ g l) → Gathered x y n g
-gathered_same p so = record {
-  size = p.size;
-  none = λ e. let u = p.none e in (u.0, λ l h. sym (so l h) ∙ u.1 l h);
-  all = λ e z. p.all e (λ l h. so l h ∙ z l h);
+  all = λ clear so. q.all (p.all clear (λ l h. so l (omega arith))) (λ l h. so (k + l) (omega arith));
 }
 
 pub gathered_tells : {x y : List ℕ} {r n : ℕ} {f : ℕ → ℕ} → Clear x → Gathered x y n f → Tells r (length y) (λ l. get_or y l 0) → Tells r n f

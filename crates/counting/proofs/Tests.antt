@@ -9,6 +9,7 @@ use mathlib.Core.Path.{◌≡◌, sym, ap, ◌∙◌}
 use mathlib.Core.Logic.{◌↔◌}
 use mathlib.Core.Bool.{not, true, false, false≢true}
 use mathlib.Core.List.{List}
+use Rattle.std.specs.Prelude.{Some, None}
 use Prim.Native.Nat.{ℕ, ◌+◌, ◌-◌, ◌≤◌, ◌<◌}
 use native.Mathlib.Omega.{arith}
 use lib.Dec.{eqb}
@@ -95,14 +96,8 @@ module _ (m k b : ℕ) (big : 1 < m) (few : k ≤ m) (s : List ℕ) where
   broken_diagonals_lem = count_cong (m - 1) (λ i h. some_cong b (λ l _. ap (λ (v : ℕ). not (eqb v 0)) (rest_H m k big few (lane m b s l) i h)))
 
   module _ (r : Broken) (p : Found 1 (m - 1) b (λ l i. rest m k big few (lane m b s l) (k + 1) i) r) where
-    pub row_there : (r.count ≡ 0 → ⊥) → BrokenRow m k b s r.last
-    row_there ne = let q = p.there (omega arith) in record {
-      there = λ h so. q.1 (λ l hl. rest_D m k big few (lane m b s l) r.last h ∙ so l hl);
-      none = λ h. absurd (omega (arith, q.0));
-    }
+    pub row_there : (r.count ≡ 0 → ⊥) → BrokenRow m k b s (Some r.last)
+    row_there ne = let q = p.there (omega arith) in (q.0, λ so. q.1 (λ l hl. rest_D m k big few (lane m b s l) r.last q.0 ∙ so l hl))
 
-    pub row_none : r.count ≡ 0 → BrokenRow m k b s (m - 1)
-    row_none e = record {
-      there = λ h. absurd (omega arith);
-      none = λ _ l i hl hi. sym (rest_D m k big few (lane m b s l) i hi) ∙ found_none p (omega arith) e i l hi hl;
-    }
+    pub row_none : r.count ≡ 0 → BrokenRow m k b s None
+    row_none e l i hl hi = sym (rest_D m k big few (lane m b s l) i hi) ∙ found_none p (omega arith) e i l hi hl

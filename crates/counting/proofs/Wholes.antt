@@ -1,23 +1,17 @@
 -- Lines of the test summed from whole columns.
 --   whole_row, whole_diagonal, whole_data   line r where D or no column, H, or a data column is left out
---   repeated_last      a column whose last cell was set, and then repeated
 use mathlib.Core.Path.{◌≡◌, sym, ap, ap₂, ◌∙◌}
-use mathlib.Core.List.{List}
-use Prim.Native.Nat.{ℕ, ◌+◌, ◌*◌, ◌-◌, ◌%◌, ◌≤◌, ◌<◌}
+use Prim.Native.Nat.{ℕ, ◌+◌, ◌%◌, ◌≤◌, ◌<◌}
 use native.Mathlib.Omega.{arith}
-use lib.ListN.{get_or}
 use Rattle.parity.specs.Xor.{◌⊕◌}
 use Rattle.parity.specs.Equations.{Lane, back}
 use Rattle.parity.proofs.Xor.{⊕_comm}
-use Rattle.cells.specs.Runs.{Put}
-use Rattle.lines.specs.Lines.{real, span, Sized}
+use Rattle.lines.specs.Lines.{real, span}
 use Rattle.lines.specs.Places.{without, window}
-use Rattle.lines.specs.Rows.{Lined}
-use Rattle.lines.proofs.Lines.{back_lt, span_more, column_is}
+use Rattle.lines.proofs.Lines.{back_lt, span_more}
 use Rattle.lines.proofs.Equations.{row_at}
 use Rattle.lines.proofs.Amounts.{cell_span}
 use Rattle.lines.proofs.Places.{window_start}
-use Rattle.lines.proofs.Turned.{last_cell}
 use Rattle.lines.proofs.Whole.{whole_line, turned_by}
 use Rattle.counting.specs.But.{line_but}
 use Rattle.counting.proofs.Buts.{window_row, window_data, window_diagonal}
@@ -53,12 +47,3 @@ module _ (m k : ℕ) (a : Lane) (u r : ℕ) (inside : r < m) where
       ap₂ ◌⊕◌ ended_diagonal
       (ap (λ (x : ℕ). span m (without u u a) 0 ((r + x) % m) 0 (k + 1)) e ∙ ap (λ (i : ℕ). span m (without u u a) 0 i 0 (k + 1)) (turned_by m r u) ∙ ended_row (back m r u) (back_lt m r u (omega arith)))
       ∙ window_data m k a u r 0 k h
-
-pub repeated_last : {m b c : ℕ} {w o v : List ℕ} {f : ℕ → ℕ} → Sized m b c → Put w o ((m - 2) * b) b f → Lined (m - 1) b 0 o v (λ r l. get_or o ((m - 2) * b + l) 0)
-    → Lined (m - 1) b 0 w v (λ r l. f l)
-repeated_last {m} {b} {c} z p q = record {
-  size = q.size ∙ p.size;
-  inside = λ r l h k. q.inside r l h k ∙ p.inside l k;
-  before = λ x h. absurd (omega arith);
-  after = λ x h. q.after x h ∙ p.after x (omega (arith, last_cell z 0, column_is m b c z));
-}

@@ -3,14 +3,13 @@
 --   test_line g s u d l        lane l of line d of those that leave column u out
 --   Found enough n b f r      r tells how many lines below n break so, all of them where it tells fewer than `enough`; and one that does
 --   FoundBy g s u enough x r  that of those lines, but line m - 1, which differ from the cell x; FoundLines g s u enough r: from line m - 1
---   BrokenRow m k b s r       r is a row of the stripe s that breaks; m - 1 or more where none does
---   columns_of, piece_of        the columns of a piece of a line, and what its cells add up to at lane l
---   below p r                 that piece of the line which is r lines further
---   Finding g p               the piece can be followed
+--   BrokenRow m k b s r       r is a row of the stripe s that breaks; None where none does
+--   piece_of g s d columns l    what the cells that line d has in those columns, of which u is left out, add up to at lane l
+--   Finding g d columns       that piece of a line can be followed
 --   Seed x b                  a cell of b bytes, or an empty one, which stands for zero
 --   ColumnRoom …              room for a column of a stripe, and for the places of a line's cells
 --   Band …                    room for n lines from `first` on, for a cell after them at `seed`, and for the places of a group's cells
-use Rattle.std.specs.Prelude.{◌≡◌, not, List, ℕ, ◌+◌, ◌*◌, ◌-◌, ◌≤◌, ◌<◌, eqb, length}
+use Rattle.std.specs.Prelude.{◌≡◌, not, Option, Some, None, List, ℕ, ◌+◌, ◌*◌, ◌-◌, ◌≤◌, ◌<◌, eqb, length}
 use Rattle.parity.specs.Xor.{◌⊕◌}
 use Rattle.parity.specs.Sum.{count, some}
 use Rattle.parity.specs.Equations.{amount_h}
@@ -19,7 +18,6 @@ use Rattle.lines.specs.declared.Columns.{Columns}
 use Rattle.lines.specs.declared.Grid.{Grid}
 use Rattle.lines.specs.Lines.{Sized, Laid}
 use Rattle.counting.specs.declared.testing.Broken.{Broken}
-use Rattle.counting.specs.declared.testing.Piece.{Piece}
 use Rattle.counting.specs.But.{window_but, line_but}
 
 unfoldable pub breaking : ℕ → ℕ → (ℕ → ℕ → ℕ) → ℕ
@@ -39,25 +37,19 @@ FoundBy g s u enough x r = Found enough (g.m - 1) g.b (λ l d. x l ⊕ test_line
 abbrev pub FoundLines : Grid → List ℕ → ℕ → ℕ → Broken → Type 0
 FoundLines g s u enough r = FoundBy g s u enough (test_line g s u (g.m - 1)) r
 
-pub record BrokenRow (m k b : ℕ) (s : List ℕ) (r : ℕ) : Type 0 where
-  pub there : r < m - 1 → ((l : ℕ) → l < b → amount_h m k (lane m b s l) r ≡ 0) → ⊥
-  pub none : m - 1 ≤ r → (l i : ℕ) → l < b → i < m - 1 → amount_h m k (lane m b s l) i ≡ 0
+abbrev pub BrokenRow : ℕ → ℕ → ℕ → List ℕ → Option ℕ → Type 0
+BrokenRow m k b s (Some i) = (i < m - 1) × (((l : ℕ) → l < b → amount_h m k (lane m b s l) i ≡ 0) → ⊥)
+BrokenRow m k b s None = (l i : ℕ) → l < b → i < m - 1 → amount_h m k (lane m b s l) i ≡ 0
 
-abbrev pub columns_of : Piece → Columns
-columns_of p = record { from = p.from; to = p.to; u = p.u; v = p.u }
+abbrev pub piece_of : Grid → List ℕ → ℕ → Columns → ℕ → ℕ
+piece_of g s d columns l = window_but g.m g.k (lane g.m g.b s l) columns.u d columns.from columns.to
 
-abbrev pub piece_of : Grid → List ℕ → Piece → ℕ → ℕ
-piece_of g s p l = window_but g.m g.k (lane g.m g.b s l) p.u p.d p.from p.to
-
-abbrev pub below : Piece → ℕ → Piece
-below p r = record { u = p.u; d = p.d + r; from = p.from; to = p.to }
-
-pub record Finding (g : Grid) (p : Piece) : Type 0 where
+pub record Finding (g : Grid) (d : ℕ) (columns : Columns) : Type 0 where
   pub sized : Sized g.m g.b g.column
   pub few : g.k ≤ g.m
-  pub inside : p.d < g.m
-  pub order : p.from ≤ p.to
-  pub most : p.to ≤ g.k
+  pub inside : d < g.m
+  pub order : columns.from ≤ columns.to
+  pub most : columns.to ≤ g.k
 
 abbrev pub Seed : List ℕ → ℕ → Type 0
 Seed x b = 0 < length x → b ≤ length x

@@ -15,10 +15,10 @@ ghost use Rattle.counting.specs.Counting.{FoundLines, BrokenRow};
 
 use lines::Grid;
 use long::count_long;
-use short::{count_short, count_small};
+use short::count_with;
 use testing::Broken;
 
-#[derive(Clone, Copy)]
+#[derive(Clone, Copy, Debug, PartialEq, Eq)]
 pub struct Counts {
     pub rows: usize,
     pub diagonals: usize,
@@ -30,15 +30,12 @@ fn count_lines(s: &[u8], g: Grid, u: usize, enough: usize) -> Broken
     ensures { FoundLines g s.now u enough result }
 {
     if 128 <= g.b {
-        return count_long(s, g, u, enough);
+        count_long(s, g, u, enough)
+    } else if 32 < g.k || 1024 < g.column {
+        count_with::<16384, 256>(s, g, u, enough)
+    } else {
+        count_with::<1024, 66>(s, g, u, enough)
     }
-    if 32 < g.k {
-        return count_short(s, g, u, enough);
-    }
-    if 1024 < g.column {
-        return count_short(s, g, u, enough);
-    }
-    count_small(s, g, u, enough)
 }
 
 // How many rows break, and how many diagonals.
@@ -55,19 +52,20 @@ pub fn count_broken(s: &[u8], g: Grid) -> Counts
     }
 }
 
-// A row that breaks, if one does: the first; m - 1 where none does.
-pub fn find_broken_row(s: &[u8], g: Grid) -> usize
+// A row that breaks, if one does: the first.
+pub fn find_broken_row(s: &[u8], g: Grid) -> Option<usize>
     requires { Laid g s.now }
     ensures { BrokenRow g.m g.k g.b s.now result }
 {
     let rows = count_lines(s, g, g.k + 1, 1);
     if rows.count == 0 {
-        return g.m - 1;
+        return None;
     }
-    rows.last
+    Some(rows.last)
 }
 
-// Whether the columns other than u fit a valid stripe; a number u that is no column's leaves no column out.
+// Whether the columns other than u fit a valid stripe; a number u that is no column's leaves no column out, as it does in `without`, of which all that is
+// said of a stripe without some column is made.
 pub fn fits_but(s: &[u8], g: Grid, u: usize) -> bool
     requires { Laid g s.now }
     ensures { (result ≡ true) ↔ FitsBut g.m g.k g.b u s.now }

@@ -3,18 +3,18 @@
 // bands write each sum and read it again for each group, which a stripe of few columns need not pay.
 ghost use Rattle.std.specs.Prelude.{◌≡◌, ◌+◌, ◌*◌, ◌-◌, ◌≤◌, ◌<◌, length, get_or};
 ghost use Rattle.parity.specs.Xor.{◌⊕◌};
-ghost use Rattle.cells.specs.Runs.{Put, Tells};
+ghost use Rattle.cells.specs.Runs.{Tells};
 ghost use Rattle.lines.specs.Lines.{Laid};
 ghost use Rattle.lines.specs.Places.{total, Within};
-ghost use Rattle.lines.specs.Rows.{Lined, Room};
+ghost use Rattle.lines.specs.Rows.{Lined};
 ghost use Rattle.sums.specs.Sums.{begun};
-ghost use Rattle.counting.specs.Counting.{test_line, columns_of, piece_of, below, Finding, Seed, Band, FoundBy, FoundLines};
+ghost use Rattle.counting.specs.Counting.{test_line, piece_of, Finding, Seed, Band, FoundBy, FoundLines};
 ghost use Rattle.counting.specs.Gather.{Gathered};
 
-use crate::testing::{Broken, Piece, count_cells, find_piece, sum_last};
-use lines::Grid;
+use crate::testing::{Broken, count_cells, find_piece, grow_line, sum_last};
+use lines::{Columns, Grid};
 
-// Ors the eight parts of 16 bytes that acc has into o: all of o is zero then exactly when o was and acc is.
+// Ors the eight parts of 16 bytes that acc has into o: all of o is zero then exactly when o was and acc is. By index, since each byte of o gets eight of acc.
 fn gather(o: &mut [u8], acc: &[u8])
     requires { (length o.old ≡ 16) × (length acc.now ≡ 128) }
     ensures { Gathered o.old o.new 128 (λ l. get_or acc.now l 0) }
@@ -50,10 +50,8 @@ fn fold_places(seed: &[u8], s: &[u8], b: usize, at: &[usize]) -> u8
     let last = b - 128;
     let mut acc = [0u8; 128];
     let mut o = [0u8; 16];
-    let mut j: usize = 0;
-    while j < last {
+    for j in (0..last).step_by(128) {
         fold_part(&mut o, &mut acc, seed, s, at, j);
-        j += 128;
     }
     fold_part(&mut o, &mut acc, seed, s, at, last);
     cells::any(&o)
@@ -65,13 +63,7 @@ fn fold_line(at: &mut [usize], seed: &[u8], s: &[u8], g: Grid, u: usize, d: usiz
     ensures { Tells result g.b (λ l. get_or seed.now l 0 ⊕ test_line g s.now u d l) }
 {
     let b = g.b;
-    let piece = Piece {
-        u,
-        d,
-        from: 0,
-        to: g.k,
-    };
-    let n = find_piece(at, g, piece);
+    let n = find_piece(at, g, d, lines::all_but(g, u, u));
     fold_places(seed, s, b, &at[0..n])
 }
 
@@ -108,71 +100,28 @@ fn count_at_once(s: &[u8], g: Grid, u: usize, enough: usize) -> Broken
     count_folded(&mut at, &last, s, g, u, enough)
 }
 
-// The cell of w at `to` gets a piece of a line: where its columns are the first it becomes the cell at `seed` plus the piece, otherwise the piece is
-// added. at is room for places.
-fn grow_line(
-    at: &mut [usize],
-    w: &mut [u8],
-    seed: usize,
-    s: &[u8],
-    g: Grid,
-    piece: Piece,
-    to: usize,
-)
-    requires { (2 + 2 * (piece.to - piece.from) ≤ length at.old) × Laid g s.now × Finding g piece × Room (length w.old) g.b seed to }
-    ensures { Put w.old w.new to g.b (λ l. begun (columns_of piece) w.old seed to l ⊕ piece_of g s.now piece l) }
-{
-    let b = g.b;
-    let n = find_piece(at, g, piece);
-    let mut begin = to;
-    if piece.from == 0 {
-        begin = seed;
-    }
-    sums::fill_places(w, begin, s, b, &at[0..n], to);
-}
-
-// Of the first n cells of w each cell r gets that piece of the line which is r lines further.
+// Of the first n cells of w each cell r gets that piece of line d + r.
 fn grow_lines(
     at: &mut [usize],
     w: &mut [u8],
     seed: usize,
     s: &[u8],
     g: Grid,
-    piece: Piece,
+    d: usize,
+    columns: Columns,
     n: usize,
 )
-    requires { (piece.from ≤ piece.to) × (piece.to ≤ piece.from + 8) × (piece.to ≤ g.k) × Band g s.now (length at.old) (length w.old) seed piece.d n }
-    ensures { Lined n g.b 0 w.old w.new (λ r l. begun (columns_of piece) w.old seed (r * g.b) l ⊕ piece_of g s.now (below piece r) l) }
+    requires { (columns.to ≤ columns.from + 8) × Finding g d columns × Band g s.now (length at.old) (length w.old) seed d n }
+    ensures { Lined n g.b 0 w.old w.new (λ r l. begun columns w.old seed (r * g.b) l ⊕ piece_of g s.now (d + r) columns l) }
 {
     let b = g.b;
     for r in 0..n {
-        let next = Piece {
-            u: piece.u,
-            d: piece.d + r,
-            from: piece.from,
-            to: piece.to,
-        };
-        grow_line(at, w, seed, s, g, next, r * b);
+        grow_line(at, w, seed, s, g, d + r, columns, r * b);
     }
 }
 
-// Where a group of columns that begins at t ends: at most eight, and four where a data column u is left out, for then a line has two cells in
-// each column. So few streams are read at once.
-fn group_of(t: usize, k: usize, u: usize) -> usize
-    requires { (t < k) × (k ≤ 127) }
-    ensures { (t < result) × (result ≤ k) × (result ≤ t + 8) }
-{
-    let e = lines::group_end(t, k);
-    if k <= u {
-        return e;
-    }
-    if t + 4 < e {
-        return t + 4;
-    }
-    e
-}
-
-// Of the first n cells of w each cell r becomes the cell at `seed` plus line first + r, in groups of data columns.
+// Of the first n cells of w each cell r becomes the cell at `seed` plus line first + r, in groups of data columns: at most eight, and four where a data
+// column u is left out, for then a line has two cells in each column. So few streams are read at once.
 fn grow_band(
     at: &mut [usize],
     w: &mut [u8],
@@ -183,21 +132,19 @@ fn grow_band(
     first: usize,
     n: usize,
 )
-    requires { Band g s.now (length at.old) (length w.old) seed first n }
+    requires { (first < g.m) × Band g s.now (length at.old) (length w.old) seed first n }
     ensures { Lined n g.b 0 w.old w.new (λ r l. get_or w.old (seed + l) 0 ⊕ test_line g s.now u (first + r) l) }
 {
     let k = g.k;
-    let mut t: usize = 0;
-    while t < k {
-        let e = group_of(t, k, u);
-        let piece = Piece {
-            u,
-            d: first,
+    let most = if k <= u { 8 } else { 4 };
+    for t in (0..k).step_by(most) {
+        let group = Columns {
             from: t,
-            to: e,
+            to: k.min(t + most),
+            u,
+            v: u,
         };
-        grow_lines(at, w, seed, s, g, piece, n);
-        t = e;
+        grow_lines(at, w, seed, s, g, first, group, n);
     }
 }
 
@@ -219,9 +166,8 @@ fn count_bands(
     let most = seed / b;
     let mut count: usize = 0;
     let mut last: usize = 0;
-    let mut first: usize = 0;
-    while first < rows {
-        let n = lines::fewer(most, rows - first);
+    for first in (0..rows).step_by(most) {
+        let n = most.min(rows - first);
         grow_band(at, w, seed, s, g, u, first, n);
         let found = count_cells(w, b, n, enough);
         if found.count != 0 {
@@ -231,7 +177,6 @@ fn count_bands(
                 return Broken { count, last };
             }
         }
-        first += n;
     }
     Broken { count, last }
 }

@@ -80,24 +80,19 @@ fn count_columns(
     count_cells(w, b, rows, enough)
 }
 
-// How many do where columns are short and few: with little room, since room is cleared before it is used.
-pub(crate) fn count_small(s: &[u8], g: Grid, u: usize, enough: usize) -> Broken
-    requires { (g.column ≤ 1024) × (g.k ≤ 32) × Laid g s.now }
+// How many do, with so much room: it is cleared before it is used, and a shape of few short columns has little.
+pub(crate) fn count_with<const ROOM: usize, const PLACES: usize>(
+    s: &[u8],
+    g: Grid,
+    u: usize,
+    enough: usize,
+) -> Broken
+    requires { (ROOM ≤ 16384) × (PLACES ≤ 256) × (g.column ≤ ROOM) × (2 + 2 * g.k ≤ PLACES) × Laid g s.now }
     ensures { FoundLines g s.now u enough result }
 {
     let c = g.column;
-    let mut at = [0usize; 66];
-    let mut w = [0u8; 1024];
-    count_columns(&mut at, &mut w[0..c], s, g, u, enough)
-}
-
-// How many do, with room for any column of short cells.
-pub(crate) fn count_short(s: &[u8], g: Grid, u: usize, enough: usize) -> Broken
-    requires { (g.b < 128) × Laid g s.now }
-    ensures { FoundLines g s.now u enough result }
-{
-    let c = g.column;
-    let mut at = [0usize; 256];
-    let mut w = [0u8; 16384];
+    let mut at = [0usize; PLACES];
+    let mut room = [0u8; ROOM];
+    let w = &mut room[..];
     count_columns(&mut at, &mut w[0..c], s, g, u, enough)
 }

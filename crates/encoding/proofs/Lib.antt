@@ -1,3 +1,1 @@
-pub mod Values
-pub mod Rows
-pub mod Columns
+pub mod Ends

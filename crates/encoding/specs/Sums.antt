@@ -1,49 +1,42 @@
--- Cells that become sums, in place.
---   Reads at s b seed to        the cells of s at the places of `at`, of b bytes, end before the cell at `to`, and the seed, which may be nothing, is
---                               not before it: so nothing is written before it is read
---   Summed s t at seed to x y   t is s, but that the lanes from x up to y of the cell at `to` are those of the cells at the places of `at` and of
---                               the cell at `seed`, summed
---   Group g x y s               the columns from x up to y, at most eight data columns of the stripe s
---   Ready …                     all that must be so where the cell at `to` is to become a seed plus line i of slant e over such a group
---   Grown fresh g x y s t i j   t is s, but that in the rows from i up to j the lines over the columns from x up to y are added to what their ends
---                               held, the cells of H for rows (e = 0) and of D for diagonals (e = 1); where the sums are fresh, to row m - 1 of H,
---                               which is zero, and to row m - 2 of D, its last cell
-use Rattle.std.specs.Prelude.{◌≡◌, Bool, cond, List, ℕ, ◌+◌, ◌-◌, ◌*◌, ◌≤◌, ◌<◌, length, get_or}
+-- Sums over the data columns of a stripe, in its columns H and D, which stand apart from them.
+--   Data g s               s is the data columns of a stripe of that shape
+--   Group g s x y          and the columns from x up to y are at most eight of them
+--   over x y               the columns from x up to y: none is left out, since no stripe has column 129
+--   spans g s e x y i l    line i of slant e over the data columns from x up to y, at lane l
+--   Grown g s x y h h' d d'   h became h', and d became d': to each row of h that row over the columns from x up to y was added, to each row of d the
+--                          diagonal. Where the columns are the first, nothing was kept of h, and of d the last cell, for every row
+--   Summed g s h h' d d'   the same of all columns: h' is the sums of the rows, d' d's last cell plus those of the diagonals
+use Rattle.std.specs.Prelude.{◌≡◌, List, ℕ, ◌+◌, ◌-◌, ◌*◌, ◌≤◌, length, get_or}
 use Rattle.parity.specs.Xor.{◌⊕◌}
-use Rattle.parity.specs.Shape.{column_length}
 use Rattle.parity.specs.Stripe.{lane}
+use Rattle.lines.specs.declared.Columns.{Columns}
 use Rattle.lines.specs.declared.Grid.{Grid}
-use Rattle.lines.specs.Lines.{real, span, Laid}
-use Rattle.lines.specs.Places.{total, Within}
-use Rattle.lines.specs.Rows.{Room}
+use Rattle.lines.specs.Lines.{line, span, Sized}
+use Rattle.lines.specs.Rows.{Lined}
+use Rattle.sums.specs.Sums.{begun}
 
-pub record Reads (at s : List ℕ) (b seed to : ℕ) : Type 0 where
-  pub within : Within at (length at) b to
-  pub room : Room (length s) b seed to
+pub record Data (g : Grid) (s : List ℕ) : Type 0 where
+  pub sized : Sized g.m g.b g.column
+  pub some : 1 ≤ g.k
+  pub few : g.k ≤ g.m
+  pub whole : length s ≡ g.k * g.column
 
-pub record Summed (s t at : List ℕ) (seed to x y : ℕ) : Type 0 where
-  pub size : length t ≡ length s
-  pub inside : (l : ℕ) → x ≤ l → l < y → get_or t (to + l) 0 ≡ get_or s (seed + l) 0 ⊕ total at (length at) s l
-  pub before : (p : ℕ) → p < to + x → get_or t p 0 ≡ get_or s p 0
-  pub after : (p : ℕ) → to + y ≤ p → get_or t p 0 ≡ get_or s p 0
-
-pub record Group (g : Grid) (x y : ℕ) (s : List ℕ) : Type 0 where
-  pub laid : Laid g s
+pub record Group (g : Grid) (s : List ℕ) (x y : ℕ) : Type 0 where
+  pub all : Data g s
   pub order : x ≤ y
   pub most : y ≤ g.k
   pub few : y ≤ x + 8
 
-pub record Ready (g : Grid) (x y : ℕ) (s : List ℕ) (e i seed to : ℕ) : Type 0 where
-  pub group : Group g x y s
-  pub slant : e ≤ 1
-  pub inside : i < g.m
-  pub past : g.k * g.column ≤ to
-  pub room : Room (length s) g.b seed to
+abbrev pub over : ℕ → ℕ → Columns
+over x y = record { from = x; to = y; u = 129; v = 129 }
 
-pub record Grown (fresh : Bool) (g : Grid) (x y : ℕ) (s t : List ℕ) (i j : ℕ) : Type 0 where
-  pub size : length t ≡ length s
-  pub kept : (p : ℕ) → p < g.k * column_length g.m g.b → get_or t p 0 ≡ get_or s p 0
-  pub ends : (e r l : ℕ) → e ≤ 1 → i ≤ r → r < j → l < g.b
-      → real g.m (lane g.m g.b t l) r (g.k + e) ≡ real g.m (lane g.m g.b s l) (cond fresh (g.m - 1 - e) r) (g.k + e) ⊕ span g.m (lane g.m g.b s l) e r x y
-  pub others : (e r l : ℕ) → e ≤ 1 → (i ≤ r → j ≤ r) → l < g.b
-      → real g.m (lane g.m g.b t l) r (g.k + e) ≡ real g.m (lane g.m g.b s l) r (g.k + e)
+abbrev pub spans : Grid → List ℕ → ℕ → ℕ → ℕ → ℕ → ℕ → ℕ
+spans g s e x y i l = span g.m (lane g.m g.b s l) e i x y
+
+pub record Grown (g : Grid) (s : List ℕ) (x y : ℕ) (h h' d d' : List ℕ) : Type 0 where
+  pub rows : Lined (g.m - 1) g.b 0 h h' (λ r l. begun (over x y) h (length h) (r * g.b) l ⊕ spans g s 0 x y r l)
+  pub diagonals : Lined (g.m - 1) g.b 0 d d' (λ r l. begun (over x y) d ((g.m - 2) * g.b) (r * g.b) l ⊕ spans g s 1 x y r l)
+
+pub record Summed (g : Grid) (s h h' d d' : List ℕ) : Type 0 where
+  pub rows : Lined (g.m - 1) g.b 0 h h' (λ r l. line g.m (lane g.m g.b s l) 0 r g.k)
+  pub diagonals : Lined (g.m - 1) g.b 0 d d' (λ r l. get_or d ((g.m - 2) * g.b + l) 0 ⊕ line g.m (lane g.m g.b s l) 1 r g.k)

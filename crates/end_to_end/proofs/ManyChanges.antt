@@ -1,7 +1,7 @@
 -- What follows from the promise of changes. What one change keeps or leaves, a list of them does.
 --   fits            an item of the list is one that change does of any stripe of that length
 --   sized           so every stripe on the way has that length, and what calls of change leave, whatever they answer, is what changes leaves
---   still_stripe    and is bytes
+--   left_size, still_stripe, same_along   what is left has the length of the stripe, is bytes where that is, and has its amounts
 --   amounts_along, data_along   the amounts on the way, and the data of two that are edited alike
 --   unnamed, last_named   what cells hold that no item names, or none after item n
 use mathlib.Core.Path.{◌≡◌, refl, sym, ap, ◌∙◌}
@@ -11,34 +11,29 @@ use Prim.Native.Nat.{ℕ, zero, suc, ◌+◌, ◌-◌, ◌*◌, ◌≤◌, ◌<�
 use native.Mathlib.Decide.{ℕ_discrete, dec_lt}
 use native.Mathlib.Omega.{arith}
 use lib.ListN.{length, get_or, get_or-eq_default}
+use Rattle.std.specs.Prelude.{Result, Ok, Err, ⊤}
 use Rattle.parity.specs.Shape.{Shape, stripe_length}
 use Rattle.parity.specs.Stripe.{byte, Stripe}
 use Rattle.parity.specs.Change.{SameAmounts, new_cell, InOrder}
-use Rattle.parity.proofs.Change.{by_cell, data_stays, same_data_amounts, amounts_back, amounts_both, valid_amounts, amounts_valid}
-use Rattle.parity.proofs.Columns.{same_column}
+use Rattle.parity.proofs.Change.{by_cell, data_stays, amounts_both}
 use Rattle.parity.proofs.InOrder.{new_size, new_at, order_one, kept_along}
 use Rattle.refusals.specs.declared.Refusal.{Refusal}
 use Rattle.refusals.specs.declared.Refusal.TheVariants.{NoSuchColumn, NoSuchRow, WrongLists}
 use Rattle.refusals.specs.Refusals.{pass, refuse, Rule, Gives, FirstRefused}
-use Rattle.refusals.proofs.Rules.{passes_not, refuse_one, gives_one, gives_first, gives_after, gives_rest}
+use Rattle.refusals.proofs.Rules.{refuse_one, gives_one, gives_first, gives_after, gives_rest, not_both, answer_refused, answer_done, last_rule}
+use Rattle.inputs.specs.declared.lists.ListRefusal.{ListRefusal}
+use Rattle.inputs.specs.declared.lists.ListRefusal.TheVariants.{Whole, Item}
 use Rattle.inputs.specs.Rules.{wrong_lists, stripe_rules, list_rules}
 use Rattle.inputs.proofs.Stripe.{stripe_passed, stripe_given}
 use Rattle.inputs.proofs.CellLists.{Lists, lists_given, lists_passed}
-use Rattle.evenodd.specs.declared.encodes.Encoded.{Encoded}
-use Rattle.evenodd.specs.declared.encodes.Encoded.TheVariants as encoded
-use Rattle.evenodd.specs.declared.one_cell.Changed.{Changed}
-use Rattle.evenodd.specs.declared.one_cell.Changed.TheVariants as changed
-use Rattle.evenodd.specs.declared.many_cells.ChangedAll.{ChangedAll}
-use Rattle.evenodd.specs.declared.many_cells.ChangedAll.TheVariants as changedAll
-use Rattle.evenodd.specs.Encodes.{Encodes}
-use Rattle.evenodd.specs.Changes.{verdict_of, cell_rules, Changes}
+use Rattle.evenodd.specs.Changes.{cell_rules, Changes}
 use Rattle.evenodd.specs.ChangesAll.{change_rules_of, ItemChanged, ChangesAll}
 use Rattle.evenodd.specs.Determined.{ChangesOne}
 use Rattle.end_to_end.specs.OneChange.{Edited}
-use Rattle.end_to_end.specs.ManyChanges.{ManyAsOneByOne, ItemAsChange, SevenOrEleven, NothingToChange, LastValueStands, ManyAsEncode, ManyKeepBroken, ManyKeepBlame}
+use Rattle.end_to_end.specs.ManyChanges.{CalledInOrder, ManyAsOneByOne, ItemAsChange, SevenOrEleven, NothingToChange, LastValueStands, ManyAsEncode, ManyKeepBroken, ManyKeepBlame}
 use Rattle.evenodd.proofs.ChangeLaws.{Fitting, change_given}
 use Rattle.evenodd.proofs.Determined.{changes_one}
-use Rattle.end_to_end.proofs.OneChange.{done_of, done, left_stripe, same_broken, same_checks, same_blame}
+use Rattle.end_to_end.proofs.OneChange.{done, fits_other, left_stripe, as_encode, keeps_broken, same_blame}
 
 module _ (m k b : ℕ) (columns rows cells : List ℕ) where
   -- the steps on the way
@@ -92,43 +87,41 @@ module _ (m k b : ℕ) (columns rows cells : List ℕ) where
         ∙ last_named n s w p j l (omega arith) hl column row (λ i hi below. later i hi (omega arith))
   ]
 
--- ---- where changes is done
+  -- ---- where changes is done
 
-module _ (m k b : ℕ) (columns rows cells s after : List ℕ) (p : ChangesAll m k b columns rows cells s after changedAll.Done) where
-  asked : Shape m k b × (length s ≡ stripe_length m k b) × Lists b (length columns) (length rows) (length cells)
-  asked = lists_given m k b (length s) (length columns) (length rows) (length cells) p.told.0
+  module _ (s after : List ℕ) (p : ChangesAll m k b columns rows cells s after (Ok tt)) where
+    asked : Shape m k b × (length s ≡ stripe_length m k b) × Lists b (length columns) (length rows) (length cells)
+    asked = lists_given m k b (length s) (length columns) (length rows) (length cells) p.told.0
 
-  fits : (i : ℕ) → i < length columns → (w : List ℕ) → length w ≡ length s → Fitting m k b (get_or columns i 0) (get_or rows i 0) (new_cell b cells i) w
-  fits i h w size =
-      let f = change_given m k b (get_or columns i 0) (get_or rows i 0) (new_cell b cells i) s (p.told.1 i h) in
-      record { shape = f.shape; whole = size ∙ f.whole; datum = f.datum; real = f.real; full = f.full }
+    fits : (i : ℕ) → i < length columns → (w : List ℕ) → length w ≡ length s → Fitting m k b (get_or columns i 0) (get_or rows i 0) (new_cell b cells i) w
+    fits i h w size = fits_other (change_given m k b (get_or columns i 0) (get_or rows i 0) (new_cell b cells i) s (p.told.1 i h)) size
 
-  sized : (v : List ℕ) → InOrder (λ i w v. (q : Changed) × Changes m k b (get_or columns i 0) (get_or rows i 0) (new_cell b cells i) w v q) (length columns) s v
-      → (length v ≡ length s) × InOrder (ItemChanged m k b columns rows cells) (length columns) s v
-  sized v called =
-      kept_along (λ w. length w ≡ length s) (λ i w v. (q : Changed) × Changes m k b (get_or columns i 0) (get_or rows i 0) (new_cell b cells i) w v q) (ItemChanged m k b columns rows cells) (length columns)
-      (λ i h w v size call. let e = done call.0 (fits i h w size) call.1 in let c = rw e at call.1 in (c.left.size ∙ size, c)) s v refl called
+    sized : (v : List ℕ) → CalledInOrder m k b columns rows cells (length columns) s v → (length v ≡ length s) × InOrder Step (length columns) s v
+    sized v called =
+        kept_along (λ w. length w ≡ length s) (λ i w v. (q : Result ⊤ Refusal) × Changes m k b (get_or columns i 0) (get_or rows i 0) (new_cell b cells i) w v q) Step (length columns)
+        (λ i h w v size call. let e = done call.0 (fits i h w size) call.1 in let c = rw e at call.1 in (c.left.size ∙ size, c)) s v refl called
 
-  left_size : length after ≡ length s
-  left_size =
-      (kept_along (λ w. length w ≡ length s) (ItemChanged m k b columns rows cells) (ItemChanged m k b columns rows cells) (length columns)
-      (λ i h w v size c. (c.left.size ∙ size, c)) s after refl p.left).0
+    left_size : length after ≡ length s
+    left_size = (kept_along (λ w. length w ≡ length s) Step Step (length columns) (λ i h w v size c. (c.left.size ∙ size, c)) s after refl p.left).0
 
-  still_stripe : Stripe m k b s → ((x : ℕ) → get_or cells x 0 < 256) → Stripe m k b after
-  still_stripe st small =
-      (kept_along (Stripe m k b) (ItemChanged m k b columns rows cells) (ItemChanged m k b columns rows cells) (length columns)
-      (λ i h w v ws c. (left_stripe m k b (get_or columns i 0) (get_or rows i 0) (new_cell b cells i) w v c ws (bytes i h), c)) s after st p.left).0
-    where
-      bytes : (i : ℕ) → i < length columns → (l : ℕ) → get_or (new_cell b cells i) l 0 < 256
-      bytes i h l = elim (dec_lt l b) [
-        | yes hl ↦ rw (new_at b cells i l hl) (small (i * b + l))
-        | no hl ↦ rw (get_or-eq_default (new_cell b cells i) 0 {n = l} (omega (arith, new_size b cells i (length columns) h asked.2.full))) (omega arith)
-      ]
+    still_stripe : Stripe m k b s → ((x : ℕ) → get_or cells x 0 < 256) → Stripe m k b after
+    still_stripe st small =
+        (kept_along (Stripe m k b) Step Step (length columns)
+        (λ i h w v ws c. (left_stripe m k b (get_or columns i 0) (get_or rows i 0) (new_cell b cells i) w v c ws (bytes i h), c)) s after st p.left).0
+      where
+        bytes : (i : ℕ) → i < length columns → (l : ℕ) → get_or (new_cell b cells i) l 0 < 256
+        bytes i h l = elim (dec_lt l b) [
+          | yes hl ↦ rw (new_at b cells i l hl) (small (i * b + l))
+          | no hl ↦ rw (get_or-eq_default (new_cell b cells i) 0 {n = l} (omega (arith, new_size b cells i (length columns) h asked.2.full))) (omega arith)
+        ]
+
+    same_along : SameAmounts m k b s after
+    same_along = amounts_along (length columns) s after p.left
 
 pub many_as_one_by_one : ManyAsOneByOne
 unfolding ManyAsOneByOne ChangesOne
 many_as_one_by_one m k b columns rows cells s after v p called =
-    order_one (ItemChanged m k b columns rows cells) (length columns) (λ i hi w x y a c. (changes_one m k b _ _ _ w x y changed.Done changed.Done a c).1) s v after
+    order_one (ItemChanged m k b columns rows cells) (length columns) (λ i hi w x y a c. (changes_one m k b _ _ _ w x y (Ok tt) (Ok tt) a c).1) s v after
     (sized m k b columns rows cells s after p v called).1 p.left
 
 pub last_value_stands : LastValueStands
@@ -142,66 +135,35 @@ last_value_stands m k b columns rows cells s after p = (
 
 pub many_as_encode : ManyAsEncode
 unfolding ManyAsEncode
-many_as_encode m k b columns rows cells s after edited fresh q valid p edits e = go q e
-  where
-    shape : Shape m k b
-    shape = (asked m k b columns rows cells s after p).0
-
-    whole : length s ≡ stripe_length m k b
-    whole = (asked m k b columns rows cells s after p).1
-
-    size : length edited ≡ length s
-    size =
-        (kept_along (λ w. length w ≡ length s) (Edit m k b columns rows cells) (Edit m k b columns rows cells) (length columns) (λ i h w v same c. (c.size ∙ same, c)) s edited refl edits).0
-
-    go : (q : Encoded) → Encodes m k b edited fresh q → (q ≡ encoded.Done) × (after ≡ fresh)
-    go encoded.Done e = (
-      refl,
-      same_data_amounts m k b shape.value.prime.big shape.filled after fresh (left_size m k b columns rows cells s after p ∙ whole) e.written.0.stripe.whole
-          (λ l i t hl hi ht.
-          data_along m k b columns rows cells (length columns) s after edited p.left edits l i t hl hi ht
-          ∙ same_column m b edited fresh t (e.written.1 t ht) l i hl hi)
-          (amounts_both (amounts_back (amounts_along m k b columns rows cells (length columns) s after p.left)) (valid_amounts valid e.written.0)),
-    )
-    go (encoded.Refused g) e = absurd (passes_not g (gives_one (stripe_rules m k b (length edited)) _ _ (stripe_passed m k b (length edited) shape (size ∙ whole)) e.told))
+many_as_encode m k b columns rows cells s after edited fresh q valid p edits e =
+    let (shape, whole, lists) = asked m k b columns rows cells s after p in
+    let edit = Edit m k b columns rows cells in
+    let size : length edited ≡ length s = (kept_along (λ w. length w ≡ length s) edit edit (length columns) (λ i h w v same c. (c.size ∙ same, c)) s edited refl edits).0 in
+    as_encode m k b s after edited fresh shape (left_size m k b columns rows cells s after p ∙ whole) (size ∙ whole) valid
+    (same_along m k b columns rows cells s after p)
+    (data_along m k b columns rows cells (length columns) s after edited p.left edits) q e
 
 pub many_keep_broken : ManyKeepBroken
 unfolding ManyKeepBroken
-many_keep_broken m k b columns rows cells s after p = (
-  same,
-  same_broken m k b s after shape whole left same,
-  same_checks m k b s after shape whole left same,
-  λ ps small. (λ v. amounts_valid v same (still_stripe m k b columns rows cells s after p ps small), λ v. amounts_valid v (amounts_back same) ps),
-)
-  where
-    shape : Shape m k b
-    shape = (asked m k b columns rows cells s after p).0
-
-    whole : length s ≡ stripe_length m k b
-    whole = (asked m k b columns rows cells s after p).1
-
-    left : length after ≡ stripe_length m k b
-    left = left_size m k b columns rows cells s after p ∙ whole
-
-    same : SameAmounts m k b s after
-    same = amounts_along m k b columns rows cells (length columns) s after p.left
+many_keep_broken m k b columns rows cells s after p =
+    let (shape, whole, lists) = asked m k b columns rows cells s after p in
+    let same = same_along m k b columns rows cells s after p in
+    let left = left_size m k b columns rows cells s after p ∙ whole in
+    let (broken, counted, valid) = keeps_broken m k b s after shape whole left same (still_stripe m k b columns rows cells s after p) in
+    (same, broken, counted, valid)
 
 pub many_keep_blame : ManyKeepBlame
 unfolding ManyKeepBlame
 many_keep_blame m k b columns rows cells s after r q ps small p pr pq =
-    same_blame m k b s after r q ps (still_stripe m k b columns rows cells s after p ps small) (amounts_along m k b columns rows cells (length columns) s after p.left) pr pq
+    same_blame m k b s after r q ps (still_stripe m k b columns rows cells s after p ps small) (same_along m k b columns rows cells s after p) pr pq
 
 -- ---- where an item is refused
-
-refused_of : (q : Changed) (f : Refusal) → verdict_of q ≡ refuse f → q ≡ changed.Refused f
-refused_of changed.Done f e = absurd (passes_not f e)
-refused_of (changed.Refused g) f e = ap changed.Refused (refuse_one g f e)
 
 pub item_as_change : ItemAsChange
 unfolding ItemAsChange
 item_as_change m k b item columns rows cells s after f p n v q call = (
-  λ h. done_of q (gives_one (change_rules_of m k b columns rows cells s n) _ _ call.told (p.told.1.before n h)),
-  λ e. refused_of q f (gives_one (change_rules_of m k b columns rows cells s n) _ _ call.told (rw e p.told.1.refused)),
+  λ h. answer_done (change_rules_of m k b columns rows cells s n) q call.told (p.told.1.before n h),
+  λ e. answer_refused (change_rules_of m k b columns rows cells s n) q call.told (rw e p.told.1.refused),
 )
 
 pub seven_or_eleven : SevenOrEleven
@@ -222,8 +184,7 @@ seven_or_eleven m k b item columns rows cells s after f p =
         → ((f ≡ NoSuchColumn) × (k ≤ get_or columns item 0)) ⊎ ((f ≡ NoSuchRow) × (get_or columns item 0 < k) × (m - 1 ≤ get_or rows item 0))
     why (inl c) = inl (refuse_one f NoSuchColumn c.1, c.0)
     why (inr (n, inl c)) = inr (refuse_one f NoSuchRow c.1, omega (arith, n), c.0)
-    why (inr (n, inr (o, inl c))) = absurd (c.0 (new_size b cells item (length columns) first.inside asked'.2.full))
-    why (inr (n, inr (o, inr c))) = absurd (passes_not f (sym c.1))
+    why (inr (n, inr (o, rest))) = absurd ((last_rule rest).0 (new_size b cells item (length columns) first.inside asked'.2.full))
 
 -- ---- an empty list
 
@@ -240,11 +201,12 @@ nothing_to_change m k b cells s after r fit p = go r p
     some : length cells ≢ 0 → Gives rules (refuse WrongLists)
     some ne = gives_after (stripe_rules m k b (length s)) (wrong_lists b 0 0 (length cells) ∷ []) _ fit (gives_first (inr (inr (λ e. ne (omega arith)))))
 
-    go : (r : ChangedAll) → ChangesAll m k b [] [] cells s after r → (after ≡ s) × (length cells ≡ 0 → r ≡ changedAll.Done) × (length cells ≢ 0 → r ≡ changedAll.Refused WrongLists)
-    go changedAll.Done p = (p.left, λ e. refl, λ ne. absurd (passes_not WrongLists (gives_one rules _ _ p.told.0 (some ne))))
-    go (changedAll.Refused f) p = (
+    go : (r : Result ⊤ ListRefusal) → ChangesAll m k b [] [] cells s after r
+        → (after ≡ s) × (length cells ≡ 0 → r ≡ Ok tt) × (length cells ≢ 0 → r ≡ Err (Whole WrongLists))
+    go (Ok _) p = (p.left, λ e. refl, λ ne. absurd (not_both rules WrongLists p.told.0 (some ne)))
+    go (Err (Whole f)) p = (
       p.left,
-      λ e. absurd (passes_not f (gives_one rules _ _ (none e) p.told)),
-      λ ne. ap changedAll.Refused (refuse_one f WrongLists (gives_one rules _ _ p.told (some ne))),
+      λ e. absurd (not_both rules f (none e) p.told),
+      λ ne. ap (λ x. Err (Whole x)) (refuse_one f WrongLists (gives_one rules _ _ p.told (some ne))),
     )
-    go (changedAll.ItemRefused i f) p = absurd (omega (arith, p.told.1.inside))
+    go (Err (Item i f)) p = absurd (omega (arith, p.told.1.inside))

@@ -1,8 +1,9 @@
 -- What follows from change's promise. Data and amounts make a stripe, and change says of both
 -- what they become.
---   done            where all that change asks is so, it is done
+--   done, fits_other   where all that change asks is so, it is done; and so it is of another stripe of that length
 --   all_grown       what the cells get added, and left_stripe: so what is left is bytes
---   same_counts, same_broken, same_checks   the same amounts, the same counts
+--   as_encode       of a valid stripe, the same amounts and the data of another: what encode makes of that one
+--   same_counts, same_broken, same_checks, keeps_broken   the same amounts, the same counts
 --   near_too, one_too, same_rules, same_blame   what is near to one stripe has its like near to another that has the same amounts; so locate says the same of both
 use mathlib.Core.Path.{◌≡◌, refl, sym, ap, ap₂, ◌∙◌}
 use mathlib.Core.Logic.{◌≢◌, ◌↔◌, inl, inr}
@@ -13,6 +14,7 @@ use native.Mathlib.Decide.{dec_lt}
 use native.Mathlib.Omega.{arith}
 use lib.Dec.{eqb}
 use lib.ListN.{length, get_or, get_or-eq_default}
+use Rattle.std.specs.Prelude.{Result, Ok, Err, ⊤}
 use borrow.Author.Tests.{eq-eqb}
 use Rattle.parity.specs.Xor.{◌⊕◌}
 use Rattle.parity.specs.Shape.{Shape, stripe_length}
@@ -26,36 +28,32 @@ use Rattle.parity.proofs.Stripes.{byte_lt}
 use Rattle.changing.proofs.Changed.{parity_grown}
 use Rattle.parity.proofs.Count.{count_cong, some_cong}
 use Rattle.parity.proofs.Change.{depends_itself, depends_other, by_cell, data_stays, same_data_amounts, amounts_back, amounts_both, valid_amounts, amounts_valid, moved_along, moved_differs}
+use Rattle.refusals.specs.declared.Refusal.{Refusal}
 use Rattle.refusals.specs.declared.Refusal.TheVariants.{Unmendable}
-use Rattle.refusals.specs.Refusals.{Verdict, pass, refuse, Gives}
-use Rattle.refusals.proofs.Rules.{passes_not, refuse_one, gives_one, gives_instead}
+use Rattle.refusals.specs.Refusals.{Verdict, pass, verdict_of, Gives}
+use Rattle.refusals.proofs.Rules.{gives_one, gives_instead, not_both, answer_refused, answer_done}
 use Rattle.inputs.specs.Rules.{unmendable, stripe_rules}
 use Rattle.inputs.proofs.Stripe.{stripe_passed}
-use Rattle.evenodd.specs.declared.one_cell.Changed.{Changed}
-use Rattle.evenodd.specs.declared.one_cell.Changed.TheVariants as changed
-use Rattle.evenodd.specs.declared.encodes.Encoded.{Encoded}
-use Rattle.evenodd.specs.declared.encodes.Encoded.TheVariants as encoded
 use Rattle.checking.specs.declared.checks.Checked.{Checked}
 use Rattle.checking.specs.declared.locates.Located.{Located}
 use Rattle.checking.specs.declared.locates.Located.TheVariants as located
 use Rattle.evenodd.specs.Encodes.{Encodes}
 use Rattle.checking.specs.Checks.{rows_of, diagonals_of, Checks}
-use Rattle.checking.specs.Locates as locates
 use Rattle.checking.specs.Locates.{locate_rules, OneDiffers, Locates}
-use Rattle.evenodd.specs.Changes.{verdict_of, change_rules, Changes}
+use Rattle.evenodd.specs.Changes.{change_rules, Changes}
 use Rattle.end_to_end.specs.OneOrNothing.{RestoreGivesBack}
 use Rattle.end_to_end.specs.OneChange.{Edited, SameBroken, ChangeAdds, ChangeAsEncode, ChangeKeepsBroken, ChangeKeepsBlame, ChangeBack, ChangesCommute, ChangeAgain, ChangeWhileAbsent}
 use Rattle.end_to_end.proofs.OneOrNothing.{restore_gives_back}
 use Rattle.end_to_end.proofs.OneWrong.{rewrite_leaves}
 use Rattle.evenodd.proofs.ChangeLaws.{Fitting, change_given, change_passed}
 
-pub done_of : (q : Changed) → verdict_of q ≡ pass → q ≡ changed.Done
-done_of changed.Done e = refl
-done_of (changed.Refused f) e = absurd (passes_not f (sym e))
-
 -- where all that change asks is so, it is done
-pub done : {m k b column row : ℕ} {cell s after : List ℕ} (q : Changed) → Fitting m k b column row cell s → Changes m k b column row cell s after q → q ≡ changed.Done
-done {m} {k} {b} {column} {row} {cell} {s} q f p = done_of q (gives_one (change_rules m k b column row cell s) _ _ p.told (change_passed m k b column row cell s f))
+pub done : {m k b column row : ℕ} {cell s after : List ℕ} (q : Result ⊤ Refusal) → Fitting m k b column row cell s → Changes m k b column row cell s after q → q ≡ Ok tt
+done {m} {k} {b} {column} {row} {cell} {s} q f p = answer_done (change_rules m k b column row cell s) q p.told (change_passed m k b column row cell s f)
+
+-- and so it is of another stripe of that length
+pub fits_other : {m k b column row : ℕ} {cell s v : List ℕ} → Fitting m k b column row cell s → length v ≡ length s → Fitting m k b column row cell v
+fits_other f size = record { shape = f.shape; whole = size ∙ f.whole; datum = f.datum; real = f.real; full = f.full }
 
 -- ---- what the cells get added
 
@@ -87,7 +85,7 @@ change_adds m k b column row cell s after p =
     all_grown m k b column row cell s after f.shape.value.prime.big f.shape.few f.datum f.real p.left.new (data_stays f.datum p.left) p.left.amounts
 
 -- what is left is bytes where the stripe and the new cell were
-pub left_stripe : (m k b column row : ℕ) (cell s after : List ℕ) → Changes m k b column row cell s after changed.Done → Stripe m k b s → ((l : ℕ) → get_or cell l 0 < 256) → Stripe m k b after
+pub left_stripe : (m k b column row : ℕ) (cell s after : List ℕ) → Changes m k b column row cell s after (Ok tt) → Stripe m k b s → ((l : ℕ) → get_or cell l 0 < 256) → Stripe m k b after
 unfolding ChangeAdds
 left_stripe m k b column row cell s after p st small = record {
   whole = whole;
@@ -110,24 +108,27 @@ left_stripe m k b column row cell s after p st small = record {
 
 -- ---- a fresh encode
 
+-- Of a valid stripe whose amounts stay, what is left is what encode makes of other data that is its own.
+pub as_encode : (m k b : ℕ) (s after edited fresh : List ℕ) → Shape m k b → length after ≡ stripe_length m k b → length edited ≡ stripe_length m k b
+    → Valid m k b s → SameAmounts m k b s after → ((l i t : ℕ) → l < b → i < m - 1 → t < k → byte m b after l i t ≡ byte m b edited l i t)
+    → (q : Result ⊤ Refusal) → Encodes m k b edited fresh q → (q ≡ Ok tt) × (after ≡ fresh)
+as_encode m k b s after edited fresh h left size valid same alike (Ok _) e = (
+  refl,
+  same_data_amounts m k b h.value.prime.big h.filled after fresh left e.written.0.stripe.whole
+      (λ l i t hl hi ht. alike l i t hl hi ht ∙ same_column m b edited fresh t (e.written.1 t ht) l i hl hi)
+      (amounts_both (amounts_back same) (valid_amounts valid e.written.0)),
+)
+as_encode m k b s after edited fresh h left size valid same alike (Err f) e =
+    absurd (not_both (stripe_rules m k b (length edited)) f (stripe_passed m k b (length edited) h size) e.told)
+
 pub change_as_encode : ChangeAsEncode
 unfolding ChangeAsEncode
-change_as_encode m k b column row cell s after edited fresh q valid p edit e = go q e
-  where
-    f : Fitting m k b column row cell s
-    f = change_given m k b column row cell s p.told
-
-    go : (q : Encoded) → Encodes m k b edited fresh q → (q ≡ encoded.Done) × (after ≡ fresh)
-    go encoded.Done e = (
-      refl,
-      same_data_amounts m k b f.shape.value.prime.big f.shape.filled after fresh (p.left.size ∙ f.whole) e.written.0.stripe.whole
-          (λ l i t hl hi ht. by_cell (byte m b after l i t ≡ byte m b edited l i t) t i column row
-          (λ c d. rw (c, d) (p.left.new l hl ∙ sym (edit.new l hl)))
-          (λ other. data_stays f.datum p.left l i t hl hi ht other ∙ sym (edit.others l i t hl hi ht other))
-          ∙ same_column m b edited fresh t (e.written.1 t ht) l i hl hi)
-          (amounts_both (amounts_back p.left.amounts) (valid_amounts valid e.written.0)),
-    )
-    go (encoded.Refused g) e = absurd (passes_not g (gives_one (stripe_rules m k b (length edited)) _ _ (stripe_passed m k b (length edited) f.shape (edit.size ∙ f.whole)) e.told))
+change_as_encode m k b column row cell s after edited fresh q valid p edit e =
+    let f = change_given m k b column row cell s p.told in
+    as_encode m k b s after edited fresh f.shape (p.left.size ∙ f.whole) (edit.size ∙ f.whole) valid p.left.amounts
+    (λ l i t hl hi ht. by_cell (byte m b after l i t ≡ byte m b edited l i t) t i column row
+    (λ c d. rw (c, d) (p.left.new l hl ∙ sym (edit.new l hl)))
+    (λ other. data_stays f.datum p.left l i t hl hi ht other ∙ sym (edit.others l i t hl hi ht other))) q e
 
 -- ---- damage
 
@@ -140,7 +141,7 @@ same_counts m k b s v same = (
 )
 
 -- what check counts, where the rules let it pass
-counts : (m k b : ℕ) (s : List ℕ) (r : Checked) → Gives (stripe_rules m k b (length s)) pass → Checks m k b s r → (rows_of r ≡ broken_rows m k b s) × (diagonals_of r ≡ broken_diagonals m k b s)
+counts : (m k b : ℕ) (s : List ℕ) (r : Result Checked Refusal) → Gives (stripe_rules m k b (length s)) pass → Checks m k b s r → (rows_of r ≡ broken_rows m k b s) × (diagonals_of r ≡ broken_diagonals m k b s)
 counts m k b s r passed p =
     let c = p.counted (gives_one (stripe_rules m k b (length s)) _ _ p.told passed) in
     (c.rows, c.diagonals)
@@ -153,23 +154,25 @@ module _ (m k b : ℕ) (s v : List ℕ) (shape : Shape m k b) (ps : length s ≡
     diagonals = λ l i hl hi. (λ z. same.diagonals l i hl hi ∙ z, λ z. sym (same.diagonals l i hl hi) ∙ z);
   }
 
-  pub same_checks : (r q : Checked) → Checks m k b s r → Checks m k b v q → (rows_of r ≡ rows_of q) × (diagonals_of r ≡ diagonals_of q)
+  pub same_checks : (r q : Result Checked Refusal) → Checks m k b s r → Checks m k b v q → (rows_of r ≡ rows_of q) × (diagonals_of r ≡ diagonals_of q)
   same_checks r q cr cq =
       let x = counts m k b s r (stripe_passed m k b (length s) shape ps) cr in
       let y = counts m k b v q (stripe_passed m k b (length v) shape pv) cq in
       let e = same_counts m k b s v same in
       (x.0 ∙ e.0 ∙ sym y.0, x.1 ∙ e.1 ∙ sym y.1)
 
+  -- and the one is valid exactly where the other is, if both are bytes
+  pub keeps_broken : {Small : Type 0} → (Stripe m k b s → Small → Stripe m k b v)
+      → SameBroken m k b s v
+      × ((r q : Result Checked Refusal) → Checks m k b s r → Checks m k b v q → (rows_of r ≡ rows_of q) × (diagonals_of r ≡ diagonals_of q))
+      × (Stripe m k b s → Small → Valid m k b s ↔ Valid m k b v)
+  keeps_broken still = (same_broken, same_checks, λ st small. (λ x. amounts_valid x same (still st small), λ x. amounts_valid x (amounts_back same) st))
+
 pub change_keeps_broken : ChangeKeepsBroken
 unfolding ChangeKeepsBroken
-change_keeps_broken m k b column row cell s after p = (
-  same_broken m k b s after f.shape f.whole (p.left.size ∙ f.whole) p.left.amounts,
-  same_checks m k b s after f.shape f.whole (p.left.size ∙ f.whole) p.left.amounts,
-  λ ps small. (λ v. amounts_valid v p.left.amounts (left_stripe m k b column row cell s after p ps small), λ v. amounts_valid v (amounts_back p.left.amounts) ps),
-)
-  where
-    f : Fitting m k b column row cell s
-    f = change_given m k b column row cell s p.told
+change_keeps_broken m k b column row cell s after p =
+    let f = change_given m k b column row cell s p.told in
+    keeps_broken m k b s after f.shape f.whole (p.left.size ∙ f.whole) p.left.amounts (left_stripe m k b column row cell s after p)
 
 -- one way: what is wrong with s is wrong with v
 module _ (m k b : ℕ) (s v : List ℕ) (ps : Stripe m k b s) (pv : Stripe m k b v) (same : SameAmounts m k b s v) where
@@ -192,24 +195,18 @@ module _ (m k b : ℕ) (s v : List ℕ) (ps : Stripe m k b s) (pv : Stripe m k b
       instead (inl c) = inl (λ w vw few. let (o, vo, e) = near_too m k b v s pv ps (amounts_back same) w vw in c.0 o vo (rw e few), c.1)
       instead (inr c) = inr (λ d. c.0 (λ w vw few. let (o, vo, e) = near_too m k b s v ps pv same w vw in d o vo (rw e few)), c.1)
 
-  still_named : (r q : Located) → Locates m k b s r → Locates m k b v q → (u : ℕ) → r ≡ located.Column u → q ≡ located.Column u
+  still_named : (r q : Result Located Refusal) → Locates m k b s r → Locates m k b v q → (u : ℕ) → r ≡ Ok (located.Column u) → q ≡ Ok (located.Column u)
   still_named r q pr pq u e =
-      let passes : locates.verdict_of r ≡ pass = ap locates.verdict_of e in
-      let answered : locates.verdict_of r ≡ locates.verdict_of q = gives_one (locate_rules m k b v) _ _ (same_rules pr.told) pq.told in
-      ((pq.found (sym answered ∙ passes)).named u).1 (one_too m k b s v ps pv same u (((pr.found passes).named u).0 e))
+      let passes : verdict_of r ≡ pass = ap verdict_of e in
+      let answered : verdict_of q ≡ verdict_of r = gives_one (locate_rules m k b v) _ _ pq.told (same_rules pr.told) in
+      ((pq.found (answered ∙ passes)).named u).1 (one_too m k b s v ps pv same u (((pr.found passes).named u).0 e))
 
-  still_six : (r q : Located) → Locates m k b s r → Locates m k b v q → r ≡ located.Refused Unmendable → q ≡ located.Refused Unmendable
-  still_six r q pr pq e = refused_with q (sym (gives_one (locate_rules m k b v) _ _ (same_rules pr.told) pq.told) ∙ ap locates.verdict_of e)
-    where
-      refused_with : (q : Located) → locates.verdict_of q ≡ refuse Unmendable → q ≡ located.Refused Unmendable
-      refused_with located.Intact e = absurd (passes_not Unmendable e)
-      refused_with located.Blank e = absurd (passes_not Unmendable e)
-      refused_with (located.Column u) e = absurd (passes_not Unmendable e)
-      refused_with (located.Refused g) e = ap located.Refused (refuse_one g Unmendable e)
+  still_six : (r q : Result Located Refusal) → Locates m k b s r → Locates m k b v q → r ≡ Err Unmendable → q ≡ Err Unmendable
+  still_six r q pr pq e = answer_refused (locate_rules m k b v) q pq.told (same_rules (rw e at pr.told))
 
 -- so locate says the same of both
-pub same_blame : (m k b : ℕ) (s v : List ℕ) (r q : Located) → Stripe m k b s → Stripe m k b v → SameAmounts m k b s v → Locates m k b s r → Locates m k b v q
-    → ((u : ℕ) → (r ≡ located.Column u) ↔ (q ≡ located.Column u)) × ((r ≡ located.Refused Unmendable) ↔ (q ≡ located.Refused Unmendable))
+pub same_blame : (m k b : ℕ) (s v : List ℕ) (r q : Result Located Refusal) → Stripe m k b s → Stripe m k b v → SameAmounts m k b s v → Locates m k b s r → Locates m k b v q
+    → ((u : ℕ) → (r ≡ Ok (located.Column u)) ↔ (q ≡ Ok (located.Column u))) × ((r ≡ Err Unmendable) ↔ (q ≡ Err Unmendable))
 same_blame m k b s v r q ps pv same pr pq =
     let other = amounts_back same in (
       λ u. (still_named m k b s v ps pv same r q pr pq u, still_named m k b v s pv ps other q r pq pr u),
@@ -234,7 +231,7 @@ change_back m k b column row cell held s after back q p size held_is w =
     again : Fitting m k b column row held after
     again = record { shape = f.shape; whole = p.left.size ∙ f.whole; datum = f.datum; real = f.real; full = size }
 
-    go : Changes m k b column row held after back changed.Done → back ≡ s
+    go : Changes m k b column row held after back (Ok tt) → back ≡ s
     go w =
         same_data_amounts m k b f.shape.value.prime.big f.shape.filled back s (w.left.size ∙ p.left.size ∙ f.whole) f.whole
         (λ l i t hl hi ht. by_cell (byte m b back l i t ≡ byte m b s l i t) t i column row
@@ -256,12 +253,12 @@ changes_commute m k b column row column' row' cell cell' s one two both other r 
     f' = change_given m k b column' row' cell' s p'.told
 
     again : Fitting m k b column' row' cell' one
-    again = record { shape = f.shape; whole = p.left.size ∙ f.whole; datum = f'.datum; real = f'.real; full = f'.full }
+    again = fits_other f' p.left.size
 
     again' : Fitting m k b column row cell two
-    again' = record { shape = f.shape; whole = p'.left.size ∙ f.whole; datum = f.datum; real = f.real; full = f.full }
+    again' = fits_other f p'.left.size
 
-    go : Changes m k b column' row' cell' one both changed.Done → Changes m k b column row cell two other changed.Done → both ≡ other
+    go : Changes m k b column' row' cell' one both (Ok tt) → Changes m k b column row cell two other (Ok tt) → both ≡ other
     go w w' =
         same_data_amounts m k b f.shape.value.prime.big f.shape.filled both other (w.left.size ∙ p.left.size ∙ f.whole) (w'.left.size ∙ p'.left.size ∙ f.whole)
         (λ l i t hl hi ht. by_cell (byte m b both l i t ≡ byte m b other l i t) t i column row
@@ -284,7 +281,7 @@ unfolding ChangeAgain ChangeAsEncode
 change_again m k b u column row cell v s after left again edited fresh q r valid ps small inside agrees p w p' edit enc =
     let (w_done, is) = rewrite_leaves m k b u f.shape inside after moved.0 left pv.whole moved.1 but_u q w in
     let r_done = done r (fits is) p' in
-    (w_done, r_done, (change_as_encode m k b column row cell left again edited fresh encoded.Done (rw is moved.1) (rw r_done at p') (still is) enc).1)
+    (w_done, r_done, (change_as_encode m k b column row cell left again edited fresh (Ok tt) (rw is moved.1) (rw r_done at p') (still is) enc).1)
   where
     f : Fitting m k b column row cell s
     f = change_given m k b column row cell s p.told
@@ -306,7 +303,7 @@ change_again m k b u column row cell v s after left again edited fresh q r valid
     }
 
     fits : left ≡ moved.0 → Fitting m k b column row cell left
-    fits is = record { shape = f.shape; whole = ap length is ∙ moved.1.stripe.whole; datum = f.datum; real = f.real; full = f.full }
+    fits is = fits_other f (ap length is ∙ moved.1.stripe.whole ∙ sym f.whole)
 
     -- and of the data v's cells, but the one
     still : left ≡ moved.0 → Edited m k b column row cell left edited

@@ -5,6 +5,7 @@ use mathlib.Core.Bool.{Bool, true, false, true≢false}
 use mathlib.Core.List.{List, [], ◌∷◌}
 use Prim.Native.Nat.{ℕ, ◌+◌, ◌<◌}
 use lib.ListN.{length}
+use Rattle.std.specs.Prelude.{Result, Ok, Err}
 use borrow.Author.Tests.{eq-eqb}
 use Rattle.parity.specs.Shape.{Shape}
 use Rattle.parity.specs.Stripe.{Valid, Blank, Intact}
@@ -13,16 +14,17 @@ use Rattle.parity.specs.Theorems.{ExactlyOne, IntactOrBlank, TwoChanged, TwoWron
 use Rattle.parity.proofs.Columns.{differs_back, differs_alike, differs_apart}
 use Rattle.parity.proofs.Theorems.{exactly_one, intact_or_blank}
 use Rattle.parity.proofs.TwoWrong.{first_changed, second_changed, others_same, near_two, two_wrong, any_third}
+use Rattle.refusals.specs.declared.Refusal.{Refusal}
 use Rattle.refusals.specs.declared.Refusal.TheVariants.{Contradicted, Unmendable}
 use Rattle.refusals.specs.Refusals.{pass, Gives}
-use Rattle.refusals.proofs.Rules.{passes_not, refuse_one, gives_one, gives_rest}
+use Rattle.refusals.proofs.Rules.{gives_one, gives_rest, not_both, last_rule}
 use Rattle.inputs.specs.Rules.{unmendable, stripe_rules}
 use Rattle.inputs.proofs.Stripe.{stripe_passed}
 use Rattle.checking.specs.declared.checks.Checked.{Checked}
 use Rattle.checking.specs.declared.checks.Checked.TheVariants as checked
 use Rattle.checking.specs.declared.locates.Located.{Located}
 use Rattle.checking.specs.declared.locates.Located.TheVariants as located
-use Rattle.checking.specs.Checks.{Counted, Checks}
+use Rattle.checking.specs.Checks.{Checks}
 use Rattle.checking.specs.Locates.{Locates}
 use Rattle.end_to_end.specs.OneOrNothing.{Fits, NoneFits, OneOrNothing}
 use Rattle.end_to_end.specs.TwoWrong.{SixOrAThird, AnyThirdNamed, RewriteSeals, OneOfTwoAbsent, BothAbsent, OtherTwoAbsent}
@@ -37,7 +39,7 @@ unfolding SixOrAThird TwoWrong IntactOrBlank
 six_or_a_third m k b x y s wrong r q h c checks locates = (
   λ e. broken (inl ((checks.counted (rw e refl)).intact.0 e)),
   λ e. broken (inr ((checks.counted (rw e refl)).blank.0 e)),
-  λ f e. passes_not f (gives_one (stripe_rules m k b (length wrong)) _ _ tested (rw e at checks.told)),
+  λ f e. not_both (stripe_rules m k b (length wrong)) f tested (rw e at checks.told),
   told q locates,
 )
   where
@@ -50,17 +52,14 @@ six_or_a_third m k b x y s wrong r q h c checks locates = (
     broken : Intact m k b wrong ⊎ Blank m k b wrong → ⊥
     broken e = wrongly ((intact_or_blank m k b wrong c.stripe).0.1 e)
 
-    told : (q : Located) → Locates m k b wrong q → (q ≡ located.Refused Unmendable) ⊎ ((u : ℕ) × (q ≡ located.Column u) × (u < k + 2) × (u ≢ x) × (u ≢ y))
-    told located.Intact p = absurd (wrongly ((p.found refl).intact.0 refl).0)
-    told located.Blank p = absurd (broken (inr ((p.found refl).blank.0 refl)))
-    told (located.Column u) p =
+    told : (q : Result Located Refusal) → Locates m k b wrong q → (q ≡ Err Unmendable) ⊎ ((u : ℕ) × (q ≡ Ok (located.Column u)) × (u < k + 2) × (u ≢ x) × (u ≢ y))
+    told (Ok located.Intact) p = absurd (wrongly ((p.found refl).intact.0 refl).0)
+    told (Ok located.Blank) p = absurd (broken (inr ((p.found refl).blank.0 refl)))
+    told (Ok (located.Column u)) p =
         let o = ((p.found refl).named u).0 refl in
         let third = (two_wrong m k b h x y s wrong c).1 u o.other o.inside o.valid o.differ in
         inr (u, refl, o.inside, third.0, third.1)
-    told (located.Refused f) p = elim (gives_rest (stripe_rules m k b (length wrong)) (unmendable m k b wrong ∷ []) _ tested p.told) [
-      | inl z ↦ inl (ap located.Refused (refuse_one f Unmendable z.1))
-      | inr z ↦ absurd (passes_not f (sym z.1))
-    ]
+    told (Err f) p = inl (ap Err (last_rule (gives_rest (stripe_rules m k b (length wrong)) (unmendable m k b wrong ∷ []) _ tested p.told)).1)
 
 pub any_third_named : AnyThirdNamed
 unfolding AnyThirdNamed AnyThird
@@ -69,18 +68,11 @@ any_third_named m k b x y u s h v hx hy hu ne nx ny =
     (wrong, c, λ q p. locate_names m k b u h wrong c.stripe.whole (record { inside = hu; other = other.0; valid = other.1; differ = other.2 }) q p)
 
 -- check calls a valid stripe intact, or blank
-said_of_valid : (m k b : ℕ) → Shape m k b → (s : List ℕ) → Valid m k b s → (r : Checked) → Checks m k b s r → (r ≡ checked.Intact) ⊎ (r ≡ checked.Blank)
+said_of_valid : (m k b : ℕ) → Shape m k b → (s : List ℕ) → Valid m k b s → (r : Result Checked Refusal) → Checks m k b s r → (r ≡ Ok checked.Intact) ⊎ (r ≡ Ok checked.Blank)
 unfolding IntactOrBlank
-said_of_valid m k b h s v r c = go r c
-  where
-    said : {r : Checked} → Counted m k b s r → (r ≡ checked.Intact) ⊎ (r ≡ checked.Blank)
-    said c = elim ((intact_or_blank m k b s v.stripe).0.0 v) [ inl i ↦ inl (c.intact.1 i) | inr z ↦ inr (c.blank.1 z) ]
-
-    go : (r : Checked) → Checks m k b s r → (r ≡ checked.Intact) ⊎ (r ≡ checked.Blank)
-    go checked.Intact c = inl refl
-    go checked.Blank c = inr refl
-    go (checked.Broken rows diagonals) c = said (c.counted refl)
-    go (checked.Refused f) c = absurd (passes_not f (gives_one (stripe_rules m k b (length s)) _ _ (stripe_passed m k b (length s) h v.stripe.whole) c.told))
+said_of_valid m k b h s v r p =
+    let c = p.counted (gives_one (stripe_rules m k b (length s)) _ _ p.told (stripe_passed m k b (length s) h v.stripe.whole)) in
+    elim ((intact_or_blank m k b s v.stripe).0.0 v) [ inl i ↦ inl (c.intact.1 i) | inr z ↦ inr (c.blank.1 z) ]
 
 pub rewrite_seals : RewriteSeals
 unfolding RewriteSeals TwoWrong

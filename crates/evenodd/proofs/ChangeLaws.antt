@@ -1,5 +1,4 @@
 -- Laws of change.
---   change_refused   what change says where it is refused
 --   change_told      the tests of the numbers and the stripe's length passed: what is asked of the cell decides
 --   Fitting, change_given   what its rules ask: where they pass, all of it is so
 --   change_passed    and where all of it is so, they pass
@@ -9,13 +8,11 @@ use Prim.Native.Nat.{ℕ, ◌-◌, ◌<◌}
 use native.Mathlib.Omega.{arith}
 use lib.ListN.{length}
 use Rattle.parity.specs.Shape.{Shape, stripe_length}
-use Rattle.refusals.specs.declared.Refusal.{Refusal}
-use Rattle.refusals.specs.Refusals.{Verdict, pass, refuse, Gives}
+use Rattle.refusals.specs.Refusals.{Verdict, pass, Gives}
 use Rattle.refusals.proofs.Rules.{gives_next, gives_after, gives_passed, passed_first, equal_of}
 use Rattle.inputs.specs.Rules.{stripe_rules}
 use Rattle.inputs.proofs.Stripe.{stripe_passed, stripe_given}
-use Rattle.evenodd.specs.declared.one_cell.Changed.TheVariants.{Refused}
-use Rattle.evenodd.specs.Changes.{cell_rules, change_rules, Changes}
+use Rattle.evenodd.specs.Changes.{cell_rules, change_rules}
 
 pub record Fitting (m k b column row : ℕ) (cell s : List ℕ) : Type 0 where
   pub shape : Shape m k b
@@ -25,9 +22,6 @@ pub record Fitting (m k b column row : ℕ) (cell s : List ℕ) : Type 0 where
   pub full : length cell ≡ b
 
 module _ (m k b column row : ℕ) (cell s : List ℕ) where
-  pub change_refused : {f : Refusal} → Gives (change_rules m k b column row cell s) (refuse f) → Changes m k b column row cell s s (Refused f)
-  change_refused told = record { told = told; left = refl }
-
   pub change_told : Shape m k b → length s ≡ stripe_length m k b → {v : Verdict} → Gives (cell_rules m k b column row (length cell)) v → Gives (change_rules m k b column row cell s) v
   change_told h whole g = gives_after (stripe_rules m k b (length s)) (cell_rules m k b column row (length cell)) _ (stripe_passed m k b (length s) h whole) g
 

@@ -18,7 +18,8 @@ use Rattle.parity.proofs.Theorems.{frame, served, at_most_one, absent_unread}
 use Rattle.inputs.specs.Rules.{too_many_absent, contradicted, stripe_rules, lent_rules, gap_rules, restore_rules, show_rules, list_rules}
 use Rattle.refusals.proofs.Rules.{passes_not, refuse_one, gives_one, passed_first, gives_passed, gives_instead, first_not, first_one}
 use Rattle.inputs.proofs.Stripe.{stripe_given}
-use Rattle.evenodd.specs.declared.encodes.Encoded.TheVariants as encoded
+use Rattle.std.specs.Prelude.{Result, Ok, Err, ⊤}
+use Rattle.refusals.specs.declared.Refusal.{Refusal}
 use Rattle.evenodd.proofs.RewriteLaws.{between, agrees_self, agrees_back, one_but}
 use Rattle.evenodd.proofs.ChangeLaws.{change_given}
 use Rattle.evenodd.proofs.Shown.{in_stripe, in_bench}
@@ -28,21 +29,17 @@ use Rattle.parity.specs.Theorems.{AtMostOne, AbsentUnread}
 use Rattle.parity.proofs.Bytes.{stripe_ext}
 use Rattle.maps.proofs.Absent.{nth_one}
 use Rattle.maps.specs.declared.Map.{Map}
-use Rattle.refusals.specs.Refusals.{pass, Gives, Verdict}
+use Rattle.refusals.specs.Refusals.{pass, verdict_of, Gives, Verdict}
 use Rattle.inputs.proofs.Tests.{lent_given}
-use Rattle.evenodd.specs.declared.restores.Restored.TheVariants as restored
-use Rattle.evenodd.specs.declared.rewrites.Rewritten.{Rewritten}
-use Rattle.evenodd.specs.declared.rewrites.Rewritten.TheVariants as rewritten
+use Rattle.inputs.specs.declared.lists.ListRefusal.{ListRefusal}
+use Rattle.inputs.specs.declared.lists.ListRefusal.TheVariants.{Whole, Item}
 use Rattle.evenodd.specs.Restores.{Benched, RestoredFrom}
 use Rattle.evenodd.specs.Rewrites.{column_rules, rewrite_rules, Rewrites}
-use Rattle.evenodd.specs.declared.one_cell.Changed.TheVariants as changed
 use Rattle.evenodd.specs.Changes.{change_rules}
-use Rattle.evenodd.specs.declared.many_cells.ChangedAll.{ChangedAll}
-use Rattle.evenodd.specs.declared.many_cells.ChangedAll.TheVariants as changedAll
 use Rattle.evenodd.specs.ChangesAll.{change_rules_of, ItemChanged, ChangesAll}
 use denote.Ref.{Bor}
 use Rattle.evenodd.specs.declared.shows.Place.{Place}
-use Rattle.evenodd.specs.declared.shows.Place.TheVariants.{InStripe, InBench, Refused}
+use Rattle.evenodd.specs.declared.shows.Place.TheVariants.{InStripe, InBench}
 use Rattle.evenodd.specs.Shows.{Places, PartOf, PartAt}
 
 -- ---- encode
@@ -60,12 +57,12 @@ data_determine m k b h s x y vx vy dx dy =
 
 pub encodes_one : EncodesOne
 unfolding EncodesOne
-encodes_one m k b s x y encoded.Done encoded.Done p q =
+encodes_one m k b s x y (Ok _) (Ok _) p q =
     (refl, data_determine m k b (stripe_given m k b (length s) p.told).0 s x y p.written.0 q.written.0 p.written.1 q.written.1)
-encodes_one m k b s x y encoded.Done (encoded.Refused g) p q = absurd (passes_not g (gives_one (stripe_rules m k b (length s)) _ _ p.told q.told))
-encodes_one m k b s x y (encoded.Refused f) encoded.Done p q = absurd (passes_not f (gives_one (stripe_rules m k b (length s)) _ _ q.told p.told))
-encodes_one m k b s x y (encoded.Refused f) (encoded.Refused g) p q =
-    (ap encoded.Refused (refuse_one f g (gives_one (stripe_rules m k b (length s)) _ _ p.told q.told)), p.written ∙ sym q.written)
+encodes_one m k b s x y (Ok _) (Err g) p q = absurd (passes_not g (gives_one (stripe_rules m k b (length s)) _ _ p.told q.told))
+encodes_one m k b s x y (Err f) (Ok _) p q = absurd (passes_not f (gives_one (stripe_rules m k b (length s)) _ _ q.told p.told))
+encodes_one m k b s x y (Err f) (Err g) p q =
+    (ap Err (refuse_one f g (gives_one (stripe_rules m k b (length s)) _ _ p.told q.told)), p.written ∙ sym q.written)
 
 -- ---- restore
 
@@ -95,20 +92,21 @@ benched_one m b n first second v before x y big full held p q =
 
 pub restores_one : RestoresOne
 unfolding RestoresOne AtMostOne
-restores_one m k b map s bench x y (restored.Columns n f g) (restored.Columns n' f' g') p q =
+restores_one m k b map s bench x y (Ok g) (Ok h) p q =
     let w = restore_passed m k b map s bench p.told in
     let u = p.restored refl in
     let v = q.restored refl in
-    let h = w.shape in
-    let en : n ≡ n' = u.counted ∙ sym v.counted in
-    let ef : f ≡ f' = nth_one (k + 2) 0 map.places f f' u.lowest v.lowest in
-    let eg : g ≡ g' = nth_one (k + 2) 1 map.places g g' u.other v.other in
-    let es : u.stripe ≡ v.stripe = at_most_one m k b h map.places w.few s u.stripe v.stripe u.valid v.valid u.agrees v.agrees in
-    (cc, benched_one m b n f g u.stripe bench x y h.value.prime.big h.filled w.held u.bench (rw (en, ef, eg, es) v.bench))
-restores_one m k b map s bench x y (restored.Columns n f g) (restored.Refused r) p q = absurd (passes_not r (gives_one (restore_rules m k b map s (length bench)) _ _ p.told q.told))
-restores_one m k b map s bench x y (restored.Refused r) (restored.Columns n f g) p q = absurd (passes_not r (gives_one (restore_rules m k b map s (length bench)) _ _ q.told p.told))
-restores_one m k b map s bench x y (restored.Refused r) (restored.Refused r') p q =
-    (ap restored.Refused (refuse_one r r' (gives_one (restore_rules m k b map s (length bench)) _ _ p.told q.told)), p.kept r refl ∙ sym (q.kept r' refl))
+    let count : g.count ≡ h.count = u.counted ∙ sym v.counted in
+    let first : g.first ≡ h.first = nth_one (k + 2) 0 map.places g.first h.first u.lowest v.lowest in
+    let second : g.second ≡ h.second = nth_one (k + 2) 1 map.places g.second h.second u.other v.other in
+    let es : u.stripe ≡ v.stripe = at_most_one m k b w.shape map.places w.few s u.stripe v.stripe u.valid v.valid u.agrees v.agrees in (
+      λ i. Ok (record { count = count i; first = first i; second = second i }),
+      benched_one m b g.count g.first g.second u.stripe bench x y w.shape.value.prime.big w.shape.filled w.held u.bench (rw (count, first, second, es) v.bench),
+    )
+restores_one m k b map s bench x y (Ok g) (Err r) p q = absurd (passes_not r (gives_one (restore_rules m k b map s (length bench)) _ _ p.told q.told))
+restores_one m k b map s bench x y (Err r) (Ok g) p q = absurd (passes_not r (gives_one (restore_rules m k b map s (length bench)) _ _ q.told p.told))
+restores_one m k b map s bench x y (Err r) (Err r') p q =
+    (ap Err (refuse_one r r' (gives_one (restore_rules m k b map s (length bench)) _ _ p.told q.told)), p.kept r refl ∙ sym (q.kept r' refl))
 
 pub restores_unread : RestoresUnread
 unfolding RestoresUnread AbsentUnread
@@ -153,25 +151,25 @@ rewrites_unread m k b column s other x r p size a = go r p
     told {v} g = gives_instead (stripe_rules m k b (length other)) (column_rules m k b column s) (column_rules m k b column other) v
         (instead m k b column s other a) (rw (← size) at g)
 
-    go : (r : Rewritten) → Rewrites m k b column s x r → Rewrites m k b column other (left_of r x other) r
-    go rewritten.Done p = record { told = told p.told; left = (p.left.0, between m k b column s s other x (agrees_self m k b column s) a p.left.1) }
-    go (rewritten.Refused f) p = record { told = told p.told; left = refl }
+    go : (r : Result ⊤ Refusal) → Rewrites m k b column s x r → Rewrites m k b column other (left_of r x other) r
+    go (Ok _) p = record { told = told p.told; left = (p.left.0, between m k b column s s other x (agrees_self m k b column s) a p.left.1) }
+    go (Err f) p = record { told = told p.told; left = refl }
 
 pub rewrites_one : RewritesOne
 unfolding RewritesOne
-rewrites_one m k b column s x y rewritten.Done rewritten.Done p q =
+rewrites_one m k b column s x y (Ok _) (Ok _) p q =
     let h = (stripe_given m k b (length s) (gives_passed (stripe_rules m k b (length s)) (column_rules m k b column s) p.told).0).0 in
     (refl, one_but m k b column h x y p.left.0 q.left.0 (between m k b column s s x y (agrees_self m k b column s) p.left.1 q.left.1))
-rewrites_one m k b column s x y rewritten.Done (rewritten.Refused g) p q = absurd (passes_not g (gives_one (rewrite_rules m k b column s) _ _ p.told q.told))
-rewrites_one m k b column s x y (rewritten.Refused f) rewritten.Done p q = absurd (passes_not f (gives_one (rewrite_rules m k b column s) _ _ q.told p.told))
-rewrites_one m k b column s x y (rewritten.Refused f) (rewritten.Refused g) p q =
-    (ap rewritten.Refused (refuse_one f g (gives_one (rewrite_rules m k b column s) _ _ p.told q.told)), p.left ∙ sym q.left)
+rewrites_one m k b column s x y (Ok _) (Err g) p q = absurd (passes_not g (gives_one (rewrite_rules m k b column s) _ _ p.told q.told))
+rewrites_one m k b column s x y (Err f) (Ok _) p q = absurd (passes_not f (gives_one (rewrite_rules m k b column s) _ _ q.told p.told))
+rewrites_one m k b column s x y (Err f) (Err g) p q =
+    (ap Err (refuse_one f g (gives_one (rewrite_rules m k b column s) _ _ p.told q.told)), p.left ∙ sym q.left)
 
 -- ---- change
 
 pub changes_one : ChangesOne
 unfolding ChangesOne
-changes_one m k b column row cell s x y changed.Done changed.Done p q =
+changes_one m k b column row cell s x y (Ok _) (Ok _) p q =
     let f = change_given m k b column row cell s p.told in (
       refl,
       same_data_amounts m k b f.shape.value.prime.big f.shape.filled x y (p.left.size ∙ f.whole) (q.left.size ∙ f.whole)
@@ -180,10 +178,10 @@ changes_one m k b column row cell s x y changed.Done changed.Done p q =
           (λ other. data_stays f.datum p.left l i t hl hi ht other ∙ sym (data_stays f.datum q.left l i t hl hi ht other)))
           (amounts_both (amounts_back p.left.amounts) q.left.amounts),
     )
-changes_one m k b column row cell s x y changed.Done (changed.Refused g) p q = absurd (passes_not g (gives_one (change_rules m k b column row cell s) _ _ p.told q.told))
-changes_one m k b column row cell s x y (changed.Refused f) changed.Done p q = absurd (passes_not f (gives_one (change_rules m k b column row cell s) _ _ q.told p.told))
-changes_one m k b column row cell s x y (changed.Refused f) (changed.Refused g) p q =
-    (ap changed.Refused (refuse_one f g (gives_one (change_rules m k b column row cell s) _ _ p.told q.told)), p.left ∙ sym q.left)
+changes_one m k b column row cell s x y (Ok _) (Err g) p q = absurd (passes_not g (gives_one (change_rules m k b column row cell s) _ _ p.told q.told))
+changes_one m k b column row cell s x y (Err f) (Ok _) p q = absurd (passes_not f (gives_one (change_rules m k b column row cell s) _ _ q.told p.told))
+changes_one m k b column row cell s x y (Err f) (Err g) p q =
+    (ap Err (refuse_one f g (gives_one (change_rules m k b column row cell s) _ _ p.told q.told)), p.left ∙ sym q.left)
 
 -- ---- changes
 
@@ -196,21 +194,21 @@ changes_all_one m k b columns rows cells s x y r q p h = go r q p h
         → Gives (list_rules m k b (length s) (length columns) (length rows) (length cells)) w → v ≡ w
     answered v w = gives_one (list_rules m k b (length s) (length columns) (length rows) (length cells)) v w
 
-    go : (r q : ChangedAll) → ChangesAll m k b columns rows cells s x r → ChangesAll m k b columns rows cells s y q → (r ≡ q) × (x ≡ y)
-    go changedAll.Done changedAll.Done p h = (
+    go : (r q : Result ⊤ ListRefusal) → ChangesAll m k b columns rows cells s x r → ChangesAll m k b columns rows cells s y q → (r ≡ q) × (x ≡ y)
+    go (Ok _) (Ok _) p h = (
       refl,
-      order_one (ItemChanged m k b columns rows cells) (length columns) (λ i hi w u v a c. (changes_one m k b _ _ _ w u v changed.Done changed.Done a c).1) s x y p.left h.left,
+      order_one (ItemChanged m k b columns rows cells) (length columns) (λ i hi w u v a c. (changes_one m k b _ _ _ w u v (Ok tt) (Ok tt) a c).1) s x y p.left h.left,
     )
-    go changedAll.Done (changedAll.Refused g) p h = absurd (passes_not g (answered _ _ p.told.0 h.told))
-    go changedAll.Done (changedAll.ItemRefused j g) p h = absurd (first_not (change_rules_of m k b columns rows cells s) (length columns) p.told.1 h.told.1)
-    go (changedAll.Refused f) changedAll.Done p h = absurd (passes_not f (answered _ _ h.told.0 p.told))
-    go (changedAll.Refused f) (changedAll.Refused g) p h = (ap changedAll.Refused (refuse_one f g (answered _ _ p.told h.told)), p.left ∙ sym h.left)
-    go (changedAll.Refused f) (changedAll.ItemRefused j g) p h = absurd (passes_not f (answered _ _ h.told.0 p.told))
-    go (changedAll.ItemRefused i f) changedAll.Done p h = absurd (first_not (change_rules_of m k b columns rows cells s) (length columns) h.told.1 p.told.1)
-    go (changedAll.ItemRefused i f) (changedAll.Refused g) p h = absurd (passes_not g (answered _ _ p.told.0 h.told))
-    go (changedAll.ItemRefused i f) (changedAll.ItemRefused j g) p h =
+    go (Ok _) (Err (Whole g)) p h = absurd (passes_not g (answered _ _ p.told.0 h.told))
+    go (Ok _) (Err (Item j g)) p h = absurd (first_not (change_rules_of m k b columns rows cells s) (length columns) p.told.1 h.told.1)
+    go (Err (Whole f)) (Ok _) p h = absurd (passes_not f (answered _ _ h.told.0 p.told))
+    go (Err (Whole f)) (Err (Whole g)) p h = (ap (λ f. Err (Whole f)) (refuse_one f g (answered _ _ p.told h.told)), p.left ∙ sym h.left)
+    go (Err (Whole f)) (Err (Item j g)) p h = absurd (passes_not f (answered _ _ h.told.0 p.told))
+    go (Err (Item i f)) (Ok _) p h = absurd (first_not (change_rules_of m k b columns rows cells s) (length columns) h.told.1 p.told.1)
+    go (Err (Item i f)) (Err (Whole g)) p h = absurd (passes_not g (answered _ _ p.told.0 h.told))
+    go (Err (Item i f)) (Err (Item j g)) p h =
         let (item, refusal) = first_one (change_rules_of m k b columns rows cells s) (length columns) p.told.1 h.told.1 in
-        (ap₂ changedAll.ItemRefused item refusal, p.left ∙ sym h.left)
+        (ap₂ (λ i f. Err (Item i f)) item refusal, p.left ∙ sym h.left)
 
 -- ---- show
 
@@ -218,27 +216,25 @@ pub places_one : PlacesOne
 unfolding PlacesOne
 places_one m k b map s bench column r q x y = go r q x y
   where
-    answered : (v w : Verdict) → Gives (show_rules m k b map (length s) (length bench) column) v → Gives (show_rules m k b map (length s) (length bench) column) w → v ≡ w
-    answered v w = gives_one (show_rules m k b map (length s) (length bench) column) v w
+    answered : (r q : Result Place Refusal) → Places m k b map s bench column r → Places m k b map s bench column q → verdict_of r ≡ verdict_of q
+    answered r q x y = gives_one (show_rules m k b map (length s) (length bench) column) _ _ x.told y.told
 
-    go : (r q : Place) → Places m k b map s bench column r → Places m k b map s bench column q → r ≡ q
-    go (InStripe a n) (InStripe c l) x y = let (_, p, u) = in_stripe x in let (_, q, v) = in_stripe y in ap₂ InStripe (p ∙ sym q) (u ∙ sym v)
-    go (InStripe a n) (InBench c l) x y = absurd (true≢false (sym (in_stripe x).0 ∙ (in_bench y).0))
-    go (InStripe a n) (Refused g) x y = absurd (passes_not g (answered _ _ x.told y.told))
-    go (InBench a n) (InStripe c l) x y = absurd (true≢false (sym (in_stripe y).0 ∙ (in_bench x).0))
-    go (InBench a n) (InBench c l) x y = let (_, p, u) = in_bench x in let (_, q, v) = in_bench y in ap₂ InBench (p ∙ sym q) (u ∙ sym v)
-    go (InBench a n) (Refused g) x y = absurd (passes_not g (answered _ _ x.told y.told))
-    go (Refused f) (InStripe c l) x y = absurd (passes_not f (answered _ _ y.told x.told))
-    go (Refused f) (InBench c l) x y = absurd (passes_not f (answered _ _ y.told x.told))
-    go (Refused f) (Refused g) x y = ap Refused (refuse_one f g (answered _ _ x.told y.told))
+    go : (r q : Result Place Refusal) → Places m k b map s bench column r → Places m k b map s bench column q → r ≡ q
+    go (Ok (InStripe a n)) (Ok (InStripe c l)) x y = let (_, p, u) = in_stripe x in let (_, q, v) = in_stripe y in ap₂ (λ at n. Ok (InStripe at n)) (p ∙ sym q) (u ∙ sym v)
+    go (Ok (InStripe a n)) (Ok (InBench c l)) x y = absurd (true≢false (sym (in_stripe x).0 ∙ (in_bench y).0))
+    go (Ok (InBench a n)) (Ok (InStripe c l)) x y = absurd (true≢false (sym (in_stripe y).0 ∙ (in_bench x).0))
+    go (Ok (InBench a n)) (Ok (InBench c l)) x y = let (_, p, u) = in_bench x in let (_, q, v) = in_bench y in ap₂ (λ at n. Ok (InBench at n)) (p ∙ sym q) (u ∙ sym v)
+    go (Ok p) (Err g) x y = absurd (passes_not g (answered (Ok p) (Err g) x y))
+    go (Err f) (Ok p) x y = absurd (passes_not f (answered (Ok p) (Err f) y x))
+    go (Err f) (Err g) x y = ap Err (refuse_one f g (answered (Err f) (Err g) x y))
 
 pub part_one : {x : Bor (List ℕ)} {at n : ℕ} {r q : Bor (List ℕ)} → PartOf x at n r → PartOf x at n q → SamePart r q
 part_one u v = record { block = u.block ∙ sym v.block; place = u.place ∙ sym v.place; bytes = u.bytes ∙ sym v.bytes }
 
-part_at_one : (s bench : Bor (List ℕ)) (p : Place) (r q : Bor (List ℕ)) → PartAt s bench p r → PartAt s bench p q → SamePart r q
-part_at_one s bench (InStripe a n) r q u v = part_one u v
-part_at_one s bench (InBench a n) r q u v = part_one u v
-part_at_one s bench (Refused f) r q u v = part_one u v
+part_at_one : (s bench : Bor (List ℕ)) (p : Result Place Refusal) (r q : Bor (List ℕ)) → PartAt s bench p r → PartAt s bench p q → SamePart r q
+part_at_one s bench (Ok (InStripe a n)) r q u v = part_one u v
+part_at_one s bench (Ok (InBench a n)) r q u v = part_one u v
+part_at_one s bench (Err f) r q u v = part_one u v
 
 pub shows_one : ShowsOne
 unfolding ShowsOne PlacesOne

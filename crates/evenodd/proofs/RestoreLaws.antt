@@ -26,17 +26,13 @@ use Rattle.maps.specs.Absent.{absent_below, NthAbsent, Counts}
 use Rattle.maps.proofs.Absent.{absences_below, below_under, others_present}
 use Rattle.evenodd.specs.Fills.{Gapped, GapsFilled, FillsGaps}
 use Rattle.maps.specs.declared.Map.{Map}
-use Rattle.evenodd.specs.declared.restores.Restored.TheVariants.{Refused}
-use Rattle.inputs.specs.declared.lent.Given.{Given}
-use Rattle.inputs.specs.declared.lent.Given.TheVariants as goal
-use Rattle.refusals.specs.declared.Refusal.{Refusal}
+use Rattle.std.specs.Prelude.{Ok, Err}
 use Rattle.refusals.specs.declared.Refusal.TheVariants.{Contradicted}
 use Rattle.refusals.specs.Refusals.{Verdict, Gives}
 use Rattle.inputs.specs.Rules.{contradicted, gap_rules, restore_rules}
-use Rattle.inputs.specs.Tests.{JudgesGaps, refusal_of}
-use Rattle.evenodd.specs.Restores.{Benched, RestoredFrom, Restores, restored_by}
+use Rattle.evenodd.specs.Restores.{Benched, RestoredFrom, Restores}
 use Rattle.refusals.proofs.Rules.{passes_not, gives_first, gives_next, gives_after}
-use Rattle.inputs.proofs.Tests.{FewAbsent, gaps_refused}
+use Rattle.inputs.proofs.Tests.{FewAbsent}
 
 module _ (m k b : ℕ) (h : Shape m k b) (map : List Bool) (s : List ℕ) (st : Stripe m k b s) (n first second : ℕ)
     (counted : n ≡ absent_below (k + 2) map) (lowest : NthAbsent (k + 2) 0 map first) (other : NthAbsent (k + 2) 1 map second) where
@@ -127,10 +123,6 @@ order n map gaps counts e =
     (below, high.0)
 
 module _ (m k b : ℕ) (map : Map) (s before : List ℕ) where
-  pub restore_refused : (j : Given) {f g : Refusal} → JudgesGaps m k b map (length s) (length before) j → j ≡ goal.Refused f → g ≡ refusal_of j
-      → Restores m k b map s before before (Refused g)
-  restore_refused j h e q = record { told = gaps_refused m k b (length s) map (length before) (contradicted m k b map s ∷ []) j h e q; restored = λ p. absurd (passes_not _ (sym p)); kept = λ _ _. refl }
-
   module _ {c : ℕ} {gaps : Gaps} (known : FewAbsent m k b (length s) map (length before) c gaps) where
     rules : {v : Verdict} → Gives (contradicted m k b map s ∷ []) v → Gives (restore_rules m k b map s (length before)) v
     rules g = gives_after (gap_rules m k b map (length s) (length before)) (contradicted m k b map s ∷ []) _ known.tests g
@@ -169,11 +161,13 @@ module _ (m k b : ℕ) (map : Map) (s before : List ℕ) where
               let z : gaps.count ≡ 0 = by_cases (dec_lt 0 gaps.count) (λ l. absurd (by_cases (dec_lt 1 gaps.count) (λ c. n (omega arith)) (λ c. o (omega arith)))) (λ l. omega arith) in
               rw (f.none z) (restored_none m k b shape map.places s st gaps.count gaps.first gaps.second counts.count counts.first counts.second z (f.fits (omega arith)) before)
 
-      pub restore_told : (filled : Bool) → FillsGaps m k b gaps s before after filled → Restores m k b map s before after (restored_by gaps filled)
-      restore_told true f =
+      pub restore_filled : FillsGaps m k b gaps s before after true → Restores m k b map s before after (Ok gaps)
+      restore_filled f =
           let r = from_filled f in
           record { told = rules (gives_next (λ c. c r.stripe r.valid r.agrees) refl); restored = λ _. r; kept = λ g p. absurd (passes_not g p) }
-      restore_told false f = record {
+
+      pub restore_contradicted : FillsGaps m k b gaps s before after false → Restores m k b map s before after (Err Contradicted)
+      restore_contradicted f = record {
         told = rules (gives_first
             (none_agrees m k b shape map.places s st gaps.count gaps.first gaps.second counts.count counts.first counts.second f.0 f.1));
         restored = λ p. absurd (passes_not Contradicted (sym p));

@@ -5,12 +5,11 @@
 --   one_but           two valid stripes that agree in every column but u are one
 --   rewrite_refused   what rewrite says where it is refused
 --   rewrite_told      the tests of the numbers and the stripe's length passed: what is asked of the column decides
---   rewrite_outside   there is no such column
 --   rewrite_none      the other columns do not fit: no valid stripe agrees
 --   rewrite_done      they do, and the stripe has become the one that agrees
 use mathlib.Core.Path.{◌≡◌, refl, sym, ◌∙◌}
 use mathlib.Core.List.{List}
-use Prim.Native.Nat.{ℕ, ◌+◌, ◌-◌, ◌≤◌, ◌<◌}
+use Prim.Native.Nat.{ℕ, ◌+◌, ◌<◌}
 use native.Mathlib.Omega.{arith}
 use lib.ListN.{length}
 use Rattle.parity.specs.Shape.{Shape, stripe_length}
@@ -23,12 +22,12 @@ use Rattle.parity.proofs.Theorems.{near}
 use Rattle.parity.proofs.Fits.{rewritten, rewritten_other, fits_valid, valid_fits}
 use Rattle.restoring.specs.Restoring.{SameBut}
 use Rattle.refusals.specs.declared.Refusal.{Refusal}
-use Rattle.refusals.specs.declared.Refusal.TheVariants.{NoSuchColumn, Contradicted}
+use Rattle.refusals.specs.declared.Refusal.TheVariants.{Contradicted}
 use Rattle.refusals.specs.Refusals.{Verdict, refuse, Gives}
 use Rattle.inputs.specs.Rules.{stripe_rules}
 use Rattle.refusals.proofs.Rules.{gives_first, gives_next, gives_after}
 use Rattle.inputs.proofs.Stripe.{stripe_passed}
-use Rattle.evenodd.specs.declared.rewrites.Rewritten.TheVariants.{Done, Refused}
+use Rattle.std.specs.Prelude.{Ok, Err}
 use Rattle.evenodd.specs.Rewrites.{column_rules, rewrite_rules, Rewrites}
 
 module _ (m k b u : ℕ) where
@@ -51,21 +50,18 @@ module _ (m k b u : ℕ) where
   unfolding differing
   one_but h x y vx vy a = near m k b h x y vx vy (let few = few_pass (k + 2) u (differs m b x y) a.at in omega arith)
 
-  pub rewrite_refused : {s : List ℕ} {f : Refusal} → Gives (rewrite_rules m k b u s) (refuse f) → Rewrites m k b u s s (Refused f)
+  rewrite_refused : {s : List ℕ} {f : Refusal} → Gives (rewrite_rules m k b u s) (refuse f) → Rewrites m k b u s s (Err f)
   rewrite_refused told = record { told = told; left = refl }
 
   pub rewrite_told : Shape m k b → (s : List ℕ) → length s ≡ stripe_length m k b → {v : Verdict} → Gives (column_rules m k b u s) v → Gives (rewrite_rules m k b u s) v
   rewrite_told h s whole g = gives_after (stripe_rules m k b (length s)) (column_rules m k b u s) _ (stripe_passed m k b (length s) h whole) g
 
   module _ (h : Shape m k b) (s : List ℕ) (st : Stripe m k b s) where
-    pub rewrite_outside : k + 2 ≤ u → Rewrites m k b u s s (Refused NoSuchColumn)
-    rewrite_outside out = rewrite_refused (rewrite_told h s st.whole (gives_first out))
-
     module _ (inside : u < k + 2) where
-      pub rewrite_none : (FitsBut m k b u s → ⊥) → Rewrites m k b u s s (Refused Contradicted)
+      pub rewrite_none : (FitsBut m k b u s → ⊥) → Rewrites m k b u s s (Err Contradicted)
       rewrite_none none = rewrite_refused (rewrite_told h s st.whole (gives_next (λ out. omega arith) (gives_first (λ v vv a. none (valid_fits m k b u s h.few v vv (same_but s v a))))))
 
-      pub rewrite_done : FitsBut m k b u s → (after : List ℕ) → ((r : List ℕ) → Valid m k b r → SameBut m k b u s r → after ≡ r) → Rewrites m k b u s after Done
+      pub rewrite_done : FitsBut m k b u s → (after : List ℕ) → ((r : List ℕ) → Valid m k b r → SameBut m k b u s r → after ≡ r) → Rewrites m k b u s after (Ok tt)
       rewrite_done fits after becomes =
           let valid = fits_valid m k b u s st fits in
           let agrees : AgreesBut m k b u s (rewritten m k b u s)

@@ -1,7 +1,7 @@
 -- Laws of show.
 --   NotRefused                   what holds where none of its rules applies
 --   passes, not_refused          its rules pass exactly where none applies
---   show_refused, show_7, show_4    its refusals, each where those before it do not apply
+--   show_4                       it refuses with 4 where those before it do not apply
 --   show_named                   what holds past them
 --   start_most                   the start of a column that is named fits a number
 --   show_stripe, show_first, show_second    where a column lies: in the stripe, in the first and in the second half of the bench
@@ -25,21 +25,17 @@ use Rattle.parity.specs.Presence.{present, absences}
 use Rattle.maps.specs.declared.Gaps.{Gaps}
 use Rattle.maps.proofs.Absent.{absences_below, below_under}
 use Rattle.maps.specs.declared.Map.{Map}
-use Rattle.evenodd.specs.declared.shows.Place.TheVariants.{InStripe, InBench, Refused}
-use Rattle.inputs.specs.declared.shapes.Judged.{Judged}
-use Rattle.inputs.specs.declared.shapes.Judged.TheVariants as judged
-use Rattle.refusals.specs.declared.Refusal.{Refusal}
-use Rattle.refusals.specs.declared.Refusal.TheVariants.{NoSuchColumn, Ambiguous}
-use Rattle.refusals.specs.Refusals.{pass, refuse, Rule, Gives}
-use Rattle.inputs.specs.Shapes.{refusal_of}
+use Rattle.evenodd.specs.declared.shows.Place.TheVariants.{InStripe, InBench}
+use Rattle.std.specs.Prelude.{Ok, Err}
+use Rattle.refusals.specs.declared.Refusal.TheVariants.{Ambiguous}
+use Rattle.refusals.specs.Refusals.{pass, Rule, Gives}
 use Rattle.maps.specs.Absent.{Stray, absent_below, Counts}
 use Rattle.maps.specs.Truth.{TrueMap, absent_by_count}
 use Rattle.inputs.specs.Rules.{no_such_column, too_many_absent, lent_rules, show_rules}
-use Rattle.inputs.specs.Tests.{JudgesLent}
 use Rattle.evenodd.specs.Shows.{half, Places, PartOf}
 use Rattle.refusals.proofs.Rules.{passes_not, gives_first, gives_next, gives_after, gives_passed, passed_first}
-use Rattle.inputs.proofs.Shape.{places_most, parts_most}
-use Rattle.inputs.proofs.Tests.{Lent, lent_given, lent_passed, told_refused}
+use Rattle.inputs.proofs.ShapeLaws.{places_most, parts_most}
+use Rattle.inputs.proofs.Tests.{Lent, lent_given, lent_passed}
 use Rattle.maps.proofs.Truth.{absent_counted}
 
 pub record NotRefused (m k b : ℕ) (map : Map) (s bench : List ℕ) (column : ℕ) : Type 0 where
@@ -70,42 +66,28 @@ module _ (m k b : ℕ) (map : Map) (s bench : List ℕ) (column : ℕ) where
       let (few, _) = passed_first four in
       record { shape = fits.shape; stripe = fits.stripe; held = fits.held; truth = fits.truth; clear = fits.clear; named = omega arith; few = omega arith }
 
-module _ (m k b : ℕ) (map : Map) (s bench : List ℕ) (column : ℕ) where
-  pub show_refused : (j : Judged) {f g : Refusal} → JudgesLent m k b map (length s) (length bench) j → j ≡ judged.Refused f → g ≡ refusal_of j
-      → Places m k b map s bench column (Refused g)
-  show_refused j {g = g} h e q = record {
-    told = told_refused (lent_rules m k b map (length s) (length bench)) (last_rules k map column) j h.told e q;
-    lies = λ p. absurd (passes_not g (sym p));
+module _ (m k b : ℕ) (map : Map) (s bench : List ℕ) (column : ℕ) {c : ℕ} (lent : Lent m k b (length s) map (length bench) c) (named : column < k + 2) where
+  -- so many columns are absent as the count leaves of k + 2
+  counted : absences k map.places ≡ absent_by_count k map
+  counted = (absent_counted map lent.truth k lent.clear).1
+
+  pub show_4 : 2 < absent_by_count k map → Places m k b map s bench column (Err Ambiguous)
+  show_4 h = record {
+    told = gives_after (lent_rules m k b map (length s) (length bench)) (last_rules k map column) _ lent.tests
+        (gives_next (λ n. omega arith) (gives_first (let e = counted in omega arith)));
+    lies = λ p. absurd (passes_not Ambiguous (sym p));
   }
 
-  module _ {c : ℕ} (lent : Lent m k b (length s) map (length bench) c) where
-    rules : {f : Refusal} → Gives (last_rules k map column) (refuse f) → Places m k b map s bench column (Refused f)
-    rules {f} g = record {
-      told = gives_after (lent_rules m k b map (length s) (length bench)) (last_rules k map column) _ lent.tests g;
-      lies = λ p. absurd (passes_not f (sym p));
-    }
-
-    pub show_7 : k + 2 ≤ column → Places m k b map s bench column (Refused NoSuchColumn)
-    show_7 h = rules (gives_first h)
-
-    -- so many columns are absent as the count leaves of k + 2
-    counted : absences k map.places ≡ absent_by_count k map
-    counted = (absent_counted map lent.truth k lent.clear).1
-
-    module _ (named : column < k + 2) where
-      pub show_4 : 2 < absent_by_count k map → Places m k b map s bench column (Refused Ambiguous)
-      show_4 h = rules (gives_next (λ n. omega arith) (gives_first (let e = counted in omega arith)))
-
-      pub show_named : absent_by_count k map ≤ 2 → NotRefused m k b map s bench column
-      show_named h = record {
-        shape = lent.numbers.shape;
-        stripe = lent.numbers.stripe;
-        held = lent.held;
-        truth = lent.truth;
-        clear = lent.clear;
-        named = named;
-        few = let e = counted in omega arith;
-      }
+  pub show_named : absent_by_count k map ≤ 2 → NotRefused m k b map s bench column
+  show_named h = record {
+    shape = lent.numbers.shape;
+    stripe = lent.numbers.stripe;
+    held = lent.held;
+    truth = lent.truth;
+    clear = lent.clear;
+    named = named;
+    few = let e = counted in omega arith;
+  }
 
 -- an absent column that show names has at most one absent column below it
 half_most : {m k b : ℕ} {map : Map} {s bench : List ℕ} {column : ℕ} → NotRefused m k b map s bench column → present map.places column ≡ false → half map.places column ≤ 1
@@ -136,28 +118,28 @@ module _ {m k b : ℕ} {map : Map} {s bench : List ℕ} {column c : ℕ} (p : No
   pub start_most : column * c ≤ 66576384
   start_most = parts_most p.shape q column (let n = places_most p.shape in let l = p.named in omega arith)
 
-  pub show_stripe : present map.places column ≡ true → Places m k b map s bench column (InStripe (column * c) c)
+  pub show_stripe : present map.places column ≡ true → Places m k b map s bench column (Ok (InStripe (column * c) c))
   show_stripe e = record { told = passes m k b map s bench column p; lies = λ _. record { from = rw e; start = rw e (ap (λ n. column * n) q); size = q } }
 
   module _ {g : Gaps} (counts : Counts (k + 2) map.places g) (e : present map.places column ≡ false) where
-    pub show_first : column ≡ g.first → Places m k b map s bench column (InBench 0 c)
+    pub show_first : column ≡ g.first → Places m k b map s bench column (Ok (InBench 0 c))
     show_first f = record { told = passes m k b map s bench column p; lies = λ _. record { from = rw e; start = rw (e, half_first counts p.named e f) (sym (zero-mul (column_length m b))); size = q } }
 
-    pub show_second : column ≢ g.first → Places m k b map s bench column (InBench c c)
+    pub show_second : column ≢ g.first → Places m k b map s bench column (Ok (InBench c c))
     show_second f =
         let one : half map.places column ≡ 1 = (let x = half_second counts p.named e f in let y = half_most p e in omega arith) in
         record { told = passes m k b map s bench column p; lies = λ _. record { from = rw e; start = rw (e, one) (q ∙ sym (one-mul (column_length m b))); size = q } }
 
 -- what the answers say
 module _ {m k b : ℕ} {map : Map} {s bench : List ℕ} {column start n : ℕ} where
-  pub in_stripe : Places m k b map s bench column (InStripe start n) → (present map.places column ≡ true) × (start ≡ column * column_length m b) × (n ≡ column_length m b)
+  pub in_stripe : Places m k b map s bench column (Ok (InStripe start n)) → (present map.places column ≡ true) × (start ≡ column * column_length m b) × (n ≡ column_length m b)
   in_stripe h = go (present map.places column) refl
     where
       go : (p : Bool) → present map.places column ≡ p → (present map.places column ≡ true) × (start ≡ column * column_length m b) × (n ≡ column_length m b)
       go true e = (e, rw e at (h.lies refl).start, (h.lies refl).size)
       go false e = absurd (let z : ◌≡◌ {A = ℕ} 0 1 = rw e at (h.lies refl).from in omega arith)
 
-  pub in_bench : Places m k b map s bench column (InBench start n)
+  pub in_bench : Places m k b map s bench column (Ok (InBench start n))
       → (present map.places column ≡ false) × (start ≡ half map.places column * column_length m b) × (n ≡ column_length m b)
   in_bench h = go (present map.places column) refl
     where
@@ -171,14 +153,14 @@ part_end : (t n c : ℕ) → t < n → t * c + c ≤ n * c
 part_end t n c l = let x = suc-mul t c in let y : suc t * c ≤ n * c = mul-le-mul_right c l in omega arith
 
 module _ {m k b : ℕ} {map : Map} {s bench : List ℕ} {column start n : ℕ} where
-  pub stripe_fits : Places m k b map s bench column (InStripe start n) → start + n ≤ length s
+  pub stripe_fits : Places m k b map s bench column (Ok (InStripe start n)) → start + n ≤ length s
   unfolding stripe_length
   stripe_fits h =
       let p = not_refused m k b map s bench column h.told in
       let (_, at, size) = in_stripe h in
       rw (at, size, p.stripe) (part_end column (k + 2) (column_length m b) p.named)
 
-  pub bench_fits : Places m k b map s bench column (InBench start n) → start + n ≤ length bench
+  pub bench_fits : Places m k b map s bench column (Ok (InBench start n)) → start + n ≤ length bench
   unfolding bench_length
   bench_fits h =
       let p = not_refused m k b map s bench column h.told in

@@ -9,13 +9,13 @@
 --                   refusal. Done: neither is so
 --   Left            what is left: done, the stripe with all items changed in list order, one at a time; refused, nothing changed
 --   ChangesAll      `Told` and `Left`
-use Rattle.std.specs.Prelude.{◌≡◌, List, ℕ, length, get_or}
+use Rattle.std.specs.Prelude.{◌≡◌, List, ℕ, length, get_or, Result, Ok, Err, ⊤}
 use Rattle.parity.specs.Change.{new_cell, InOrder}
+use Rattle.inputs.specs.declared.lists.ListRefusal.{ListRefusal}
+use Rattle.inputs.specs.declared.lists.ListRefusal.TheVariants.{Whole, Item}
 use Rattle.refusals.specs.Refusals.{Verdict, pass, refuse, Rule, Gives, EachPasses, FirstRefused}
 use Rattle.inputs.specs.Rules.{list_rules}
-use Rattle.evenodd.specs.declared.many_cells.ChangedAll.{ChangedAll}
-use Rattle.evenodd.specs.declared.many_cells.ChangedAll.TheVariants.{Done, Refused, ItemRefused}
-use Rattle.evenodd.specs.declared.one_cell.Changed.TheVariants as changed
+use Rattle.inputs.specs.Lists as lists
 use Rattle.evenodd.specs.Changes.{change_rules, Changes}
 
 abbrev pub whole_rules : ℕ → ℕ → ℕ → List ℕ → List ℕ → List ℕ → List ℕ → List Rule
@@ -25,28 +25,26 @@ abbrev pub change_rules_of : ℕ → ℕ → ℕ → List ℕ → List ℕ → L
 change_rules_of m k b columns rows cells s n = change_rules m k b (get_or columns n 0) (get_or rows n 0) (new_cell b cells n) s
 
 abbrev pub ItemChanged : ℕ → ℕ → ℕ → List ℕ → List ℕ → List ℕ → ℕ → List ℕ → List ℕ → Type 0
-ItemChanged m k b columns rows cells n s v = Changes m k b (get_or columns n 0) (get_or rows n 0) (new_cell b cells n) s v changed.Done
+ItemChanged m k b columns rows cells n s v = Changes m k b (get_or columns n 0) (get_or rows n 0) (new_cell b cells n) s v (Ok tt)
 
-abbrev pub item_of : ChangedAll → ℕ
-item_of Done = 256
-item_of (Refused r) = 256
-item_of (ItemRefused n r) = n
+abbrev pub item_of : Result ⊤ ListRefusal → ℕ
+item_of (Ok _) = 256
+item_of (Err e) = lists.item_of e
 
-abbrev pub verdict_of : ChangedAll → Verdict
-verdict_of Done = pass
-verdict_of (Refused r) = refuse r
-verdict_of (ItemRefused n r) = refuse r
+abbrev pub verdict_of : Result ⊤ ListRefusal → Verdict
+verdict_of (Ok _) = pass
+verdict_of (Err e) = refuse (lists.refusal_of e)
 
-abbrev pub Told : ℕ → ℕ → ℕ → List ℕ → List ℕ → List ℕ → List ℕ → ChangedAll → Type 0
-Told m k b columns rows cells s Done = Gives (whole_rules m k b columns rows cells s) pass × EachPasses (change_rules_of m k b columns rows cells s) (length columns)
-Told m k b columns rows cells s (Refused r) = Gives (whole_rules m k b columns rows cells s) (refuse r)
-Told m k b columns rows cells s (ItemRefused n r) = Gives (whole_rules m k b columns rows cells s) pass × FirstRefused (change_rules_of m k b columns rows cells s) (length columns) n r
+abbrev pub Told : ℕ → ℕ → ℕ → List ℕ → List ℕ → List ℕ → List ℕ → Result ⊤ ListRefusal → Type 0
+Told m k b columns rows cells s (Ok _) = Gives (whole_rules m k b columns rows cells s) pass × EachPasses (change_rules_of m k b columns rows cells s) (length columns)
+Told m k b columns rows cells s (Err (Whole f)) = Gives (whole_rules m k b columns rows cells s) (refuse f)
+Told m k b columns rows cells s (Err (Item n f)) = Gives (whole_rules m k b columns rows cells s) pass × FirstRefused (change_rules_of m k b columns rows cells s) (length columns) n f
 
-abbrev pub Left : ℕ → ℕ → ℕ → List ℕ → List ℕ → List ℕ → List ℕ → List ℕ → ChangedAll → Type 0
-Left m k b columns rows cells before after Done = InOrder (ItemChanged m k b columns rows cells) (length columns) before after
-Left m k b columns rows cells before after (Refused r) = after ≡ before
-Left m k b columns rows cells before after (ItemRefused n r) = after ≡ before
+abbrev pub Left : ℕ → ℕ → ℕ → List ℕ → List ℕ → List ℕ → List ℕ → List ℕ → Result ⊤ ListRefusal → Type 0
+Left m k b columns rows cells before after (Ok _) = InOrder (ItemChanged m k b columns rows cells) (length columns) before after
+Left m k b columns rows cells before after (Err (Whole f)) = after ≡ before
+Left m k b columns rows cells before after (Err (Item n f)) = after ≡ before
 
-pub record ChangesAll (m k b : ℕ) (columns rows cells before after : List ℕ) (r : ChangedAll) : Type 0 where
+pub record ChangesAll (m k b : ℕ) (columns rows cells before after : List ℕ) (r : Result ⊤ ListRefusal) : Type 0 where
   pub told : Told m k b columns rows cells before r
   pub left : Left m k b columns rows cells before after r

@@ -1,37 +1,29 @@
 -- What restore answers and leaves in the bench. It speaks of valid stripes that agree, and of nothing else.
---   verdict_of, count_of, first_of, second_of   the verdict of an answer, how many columns were restored and their numbers; 0 129 129 where it is refused
+--   count_of, first_of, second_of   how many columns were restored, and their numbers; 0 129 129 where it is refused
 --   Benched        the bench holds columns `first` and `second` of v; of n columns restored, halves that hold none are as they were
 --   RestoredFrom   n columns are absent, `first` and `second` are their numbers, 129 for none, and the bench is that of a valid stripe that agrees
 --   Restores       refused by `restore_rules`, and the bench is as it was; passed: `RestoredFrom`
---   restored_by     the answer where the gaps were filled, and where they could not be
-use Rattle.std.specs.Prelude.{◌≡◌, Bool, true, false, cond, List, ℕ, ◌+◌, ◌-◌, ◌<◌, ltb, length}
+use Rattle.std.specs.Prelude.{◌≡◌, Bool, cond, List, ℕ, ◌+◌, ◌-◌, ◌<◌, ltb, length, Result, Ok, Err}
 use Rattle.parity.specs.Stripe.{byte, Valid}
 use Rattle.parity.specs.Presence.{absences, Agrees}
 use Rattle.maps.specs.declared.Gaps.{Gaps}
 use Rattle.maps.specs.declared.Map.{Map}
-use Rattle.evenodd.specs.declared.restores.Restored.{Restored}
-use Rattle.evenodd.specs.declared.restores.Restored.TheVariants.{Columns, Refused}
 use Rattle.refusals.specs.declared.Refusal.{Refusal}
-use Rattle.refusals.specs.declared.Refusal.TheVariants.{Contradicted}
-use Rattle.refusals.specs.Refusals.{Verdict, pass, refuse, Gives}
+use Rattle.refusals.specs.Refusals.{pass, refuse, verdict_of, Gives}
 use Rattle.inputs.specs.Rules.{restore_rules}
 use Rattle.maps.specs.Absent.{NthAbsent}
 
-abbrev pub verdict_of : Restored → Verdict
-verdict_of (Columns n first second) = pass
-verdict_of (Refused r) = refuse r
+abbrev pub count_of : Result Gaps Refusal → ℕ
+count_of (Ok gaps) = gaps.count
+count_of (Err f) = 0
 
-abbrev pub count_of : Restored → ℕ
-count_of (Columns n first second) = n
-count_of (Refused r) = 0
+abbrev pub first_of : Result Gaps Refusal → ℕ
+first_of (Ok gaps) = gaps.first
+first_of (Err f) = 129
 
-abbrev pub first_of : Restored → ℕ
-first_of (Columns n first second) = first
-first_of (Refused r) = 129
-
-abbrev pub second_of : Restored → ℕ
-second_of (Columns n first second) = second
-second_of (Refused r) = 129
+abbrev pub second_of : Result Gaps Refusal → ℕ
+second_of (Ok gaps) = gaps.second
+second_of (Err f) = 129
 
 pub record Benched (m b n first second : ℕ) (v before after : List ℕ) : Type 0 where
   pub size : length after ≡ length before
@@ -48,11 +40,7 @@ pub record RestoredFrom (m k b : ℕ) (map : List Bool) (s before after : List �
   pub other : NthAbsent (k + 2) 1 map second
   pub bench : Benched m b n first second stripe before after
 
-pub record Restores (m k b : ℕ) (map : Map) (s before after : List ℕ) (r : Restored) : Type 0 where
+pub record Restores (m k b : ℕ) (map : Map) (s before after : List ℕ) (r : Result Gaps Refusal) : Type 0 where
   pub told : Gives (restore_rules m k b map s (length before)) (verdict_of r)
   pub restored : verdict_of r ≡ pass → RestoredFrom m k b map.places s before after (count_of r) (first_of r) (second_of r)
   pub kept : (f : Refusal) → verdict_of r ≡ refuse f → after ≡ before
-
-abbrev pub restored_by : Gaps → Bool → Restored
-restored_by gaps true = Columns gaps.count gaps.first gaps.second
-restored_by gaps false = Refused Contradicted

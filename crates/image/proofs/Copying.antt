@@ -1,7 +1,7 @@
 -- Column after column copied from an image to a stripe.
 --   put_body_lem, put_nothing     one column: its body is put there, or it is absent
---   copied_none, copied_more  no column, and one more
-use mathlib.Core.Path.{◌≡◌, refl, ap, ◌∙◌}
+--   copied_more               one column more
+use mathlib.Core.Path.{◌≡◌, ap, ◌∙◌}
 use mathlib.Core.Bool.{Bool, true, false, cond}
 use mathlib.Core.List.{List}
 use Prim.Native.Nat.{ℕ, ◌+◌, ◌*◌, ◌-◌, ◌≤◌, ◌<◌}
@@ -26,9 +26,6 @@ module _ (image : List ℕ) (map : List Bool) (column : ℕ) where
   pub put_nothing : (s : List ℕ) (t : ℕ) → present map t ≡ false → Put s s (t * column) column (copied_byte image map column s t)
   unfolding copied_byte
   put_nothing s t e = put_kept s (t * column) column _ (λ j h. rw e)
-
-  pub copied_none : (s : List ℕ) → CopiedBelow image map column 0 s s
-  copied_none s = record { size = refl; at = λ t h. absurd (omega arith); later = λ p h. refl }
 
   pub copied_more : (before mid after : List ℕ) (n : ℕ) → CopiedBelow image map column n before mid → Put mid after (n * column) column (copied_byte image map column mid n)
       → CopiedBelow image map column (n + 1) before after

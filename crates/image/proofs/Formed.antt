@@ -19,7 +19,7 @@ use Rattle.parity.specs.Presence.{present}
 use Rattle.parity.proofs.Bytes.{byte_at, row_at, build, build_byte, build_stripe}
 use Rattle.parity.proofs.Count.{count_cong, count_most, count_under}
 use Rattle.cells.proofs.Parts.{parts_end}
-use Rattle.inputs.proofs.Shape.{places_most, parts_most}
+use Rattle.inputs.proofs.ShapeLaws.{places_most, parts_most}
 use Rattle.image.specs.Format.{bodies_at, present_below, offset, entry, body, WellFormed}
 use Rattle.image.specs.Reads.{number2}
 use Rattle.image.specs.Entries.{entry_at, says_present, offset_at, Entry, body_at, RightEntries, Bodies}

@@ -6,16 +6,17 @@
 --   RightEntry image t next        entry t is as it must be where the next body would begin at `next`
 --   body_at image start column t    where the next body begins after those of the columns below t
 --   RightEntries                   entries 0 to n - 1 are as they must be
---   StateOf image t next r         what is found at entry t
---   Reached, WalkedContents        what is known of the contents after n entries
+--   StateOf image t next r         whether entry t says that its column is present, or that it is not right
+--   Reached                        what is known of the contents after n right entries
+--   WalkedContents                 of the first n entries: what is known after them, or that one of them is not right
 --   Bodies                         the bodies of the present columns below n lie within the image
 --   copied_byte                     a byte of the stripe after the copying: the body's where the column is present, else the one that was there
 --   CopiedBelow                    the columns below n are copied, and what comes after them stays
-use Rattle.std.specs.Prelude.{◌≡◌, Bool, true, false, cond, List, ℕ, ◌+◌, ◌*◌, ◌≤◌, ◌<◌, eqb, length, get_or}
+use Rattle.std.specs.Prelude.{◌≡◌, Bool, true, false, cond, List, ℕ, ◌+◌, ◌*◌, ◌≤◌, ◌<◌, eqb, length, get_or, Result, Ok, Err}
 use Rattle.parity.specs.Sum.{count}
 use Rattle.parity.specs.Presence.{present}
-use Rattle.image.specs.declared.table.State.{State}
-use Rattle.image.specs.declared.table.State.TheVariants.{Present, Absent, Wrong}
+use Rattle.refusals.specs.declared.Refusal.{Refusal}
+use Rattle.refusals.specs.declared.Refusal.TheVariants.{Malformed}
 use Rattle.image.specs.declared.table.Table.{Table}
 use Rattle.image.specs.Reads.{number2}
 
@@ -47,10 +48,9 @@ body_at image start column t = start + count t (says_present image) * column
 pub record RightEntries (image : List ℕ) (start column n : ℕ) : Type 0 where
   pub at : (t : ℕ) → t < n → RightEntry image t (body_at image start column t)
 
-abbrev pub StateOf : List ℕ → ℕ → ℕ → State → Type 0
-StateOf image t next Present = (says_present image t ≡ true) × RightEntry image t next
-StateOf image t next Absent = (says_present image t ≡ false) × RightEntry image t next
-StateOf image t next Wrong = RightEntry image t next → ⊥
+abbrev pub StateOf : List ℕ → ℕ → ℕ → Result Bool Refusal → Type 0
+StateOf image t next (Ok there) = (says_present image t ≡ there) × RightEntry image t next
+StateOf image t next (Err f) = (f ≡ Malformed) × (RightEntry image t next → ⊥)
 
 -- the places below n are present that the image says are
 pub record Reached (image : List ℕ) (start column n : ℕ) (w : Table) : Type 0 where
@@ -60,10 +60,9 @@ pub record Reached (image : List ℕ) (start column n : ℕ) (w : Table) : Type 
   pub below : (t : ℕ) → t < n → present w.places t ≡ says_present image t
   pub clear : (t : ℕ) → n ≤ t → present w.places t ≡ false
 
-pub record WalkedContents (image : List ℕ) (start column n : ℕ) (w : Table) : Type 0 where
-  pub most : w.next ≤ start + n * column
-  pub right : w.right ≡ true → Reached image start column n w
-  pub wrong : w.right ≡ false → RightEntries image start column n → ⊥
+abbrev pub WalkedContents : List ℕ → ℕ → ℕ → ℕ → Result Table Refusal → Type 0
+WalkedContents image start column n (Ok w) = Reached image start column n w
+WalkedContents image start column n (Err f) = (f ≡ Malformed) × (RightEntries image start column n → ⊥)
 
 pub record Bodies (image : List ℕ) (map : List Bool) (column n : ℕ) : Type 0 where
   pub entries : entry_at n ≤ length image

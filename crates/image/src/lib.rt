@@ -7,5 +7,5 @@ mod numbers;
 mod reading;
 mod table;
 
-pub use answers::{Contents, Read};
+pub use answers::Contents;
 pub use reading::{contents, read};

@@ -3,19 +3,12 @@ ghost use Rattle.std.specs.Prelude.{◌≡◌, ◌+◌, ◌≤◌, ◌<◌, leng
 ghost use Rattle.image.specs.Reads.{number2};
 ghost use Rattle.image.specs.Entries.{number4};
 
-// A byte as a number of the width that lengths have.
-fn wide(byte: u8) -> usize
-    ensures { (result ≡ byte) × (result < 256) }
-{
-    byte as usize
-}
-
 // The number in the two bytes at x.
 pub(crate) fn two(image: &[u8], x: usize) -> usize
     requires { x + 2 ≤ length image.now }
     ensures { (result ≡ number2 image.now x) × (result < 65536) }
 {
-    wide(image[x]) + 256 * wide(image[x + 1])
+    usize::from(u16::from_le_bytes([image[x], image[x + 1]]))
 }
 
 // The number in the four bytes at x.

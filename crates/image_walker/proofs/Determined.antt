@@ -16,9 +16,11 @@ use Rattle.parity.specs.Shape.{Shape, column_length}
 use Rattle.parity.specs.Sum.{count}
 use Rattle.parity.specs.Presence.{present}
 use Rattle.parity.proofs.Count.{count_under}
+use Rattle.std.specs.Prelude.{Option, Some, None, Result, Ok, Err}
+use Rattle.refusals.specs.declared.Refusal.{Refusal}
 use Rattle.refusals.specs.Refusals.{pass, Gives}
 use Rattle.refusals.proofs.Rules.{passes_not, refuse_one, passed_first, gives_one, gives_passed}
-use Rattle.inputs.proofs.Shape.{passed_shape}
+use Rattle.inputs.proofs.ShapeLaws.{passed_shape}
 use Rattle.evenodd.proofs.Determined.{part_one}
 use Rattle.image.specs.Format.{joined, present_below, body, WellFormed}
 use Rattle.image.specs.Reads.{m_in, k_in, b_in, malformed, contents_rules}
@@ -27,68 +29,71 @@ use Rattle.image.proofs.Laid.{body_length, image_laid}
 use Rattle.image.proofs.Verdicts.{formed_header, formed_passes}
 use Rattle.image.proofs.Filling.{Good}
 use Rattle.image_walker.specs.declared.steps.Found.{Found}
-use Rattle.image_walker.specs.declared.steps.Found.TheVariants.{Column, End, Refused}
-use Rattle.image_walker.specs.declared.steps.Step.{Step}
-use Rattle.image_walker.specs.Steps.{past_the_end, walk_rules, verdict_of, start_of, length_of, AbsentFrom, StepAt}
-use Rattle.image_walker.specs.Finding.{body_start, Lies, FindsBy}
+use Rattle.image_walker.specs.Steps.{past_the_end, walk_rules, start_of, length_of, AbsentFrom, StepAt}
+use Rattle.image_walker.specs.Finding.{body_start, Lies, FindsFrom}
 use Rattle.image_walker.specs.Walks.{Walked, present_columns}
 use Rattle.image_walker.specs.Determined.{StepsOne, PartsOne, WalkersOne, StepTellsColumn, WalkTellsColumns, WalkEnds}
-use Rattle.image_walker.proofs.Stepping.{step_found, found_step}
+use Rattle.image_walker.proofs.Stepping.{next_of, step_found, found_step}
 
 -- ---- a step
 
 -- what is known of an image, from a step that passes
-good_step : {image : List ℕ} {place : ℕ} {map : List Bool} → Gives (walk_rules image place) pass → WellFormed (m_in image) (k_in image) (b_in image) map image
+good_of : {image : List ℕ} {place : ℕ} {map : List Bool} → Gives (walk_rules image place) pass → WellFormed (m_in image) (k_in image) (b_in image) map image
     → Good image (m_in image) (k_in image) (b_in image) map
-good_step {image} {place} told w =
+good_of {image} {place} told w =
     let (first, _) = gives_passed (contents_rules image) (past_the_end (k_in image) place ∷ []) told in
     let (shape, _) = passed_shape (m_in image) (k_in image) (b_in image) (malformed (m_in image) (k_in image) (b_in image) image ∷ []) (passed_first first).1 in
     record { own = record { first = refl; second = refl; third = refl }; passes = first; shape = shape; formed = w }
 
+good_step : {image : List ℕ} {place next : ℕ} (r : Option Found) → StepAt image place (record { found = Ok r; next = next })
+    → (map : List Bool) × Good image (m_in image) (k_in image) (b_in image) map
+good_step (Some r) x = (x.finds.0.map, good_of x.told x.finds.0.formed)
+good_step None x = (x.finds.0.map, good_of x.told x.finds.0.formed)
+
+found_same : (t a n u b o : ℕ) → t ≡ u → a ≡ b → n ≡ o
+    → ◌≡◌ {A = Found} (record { column = t; start = a; length = n }) (record { column = u; start = b; length = o })
+found_same t a n u b o e f g = rw (e, f, g) refl
+
 module _ {map : List Bool} {columns column place : ℕ} where
-  not_before : {t u start n next : ℕ} → Lies map columns column place t start n next → AbsentFrom place u map → t < u → ⊥
+  not_before : {u : ℕ} {r : Found} → Lies map columns column place r → AbsentFrom place u map → r.column < u → ⊥
   not_before x absent h = true≢false (sym x.there ∙ absent _ x.order h)
 
   -- one column is the first
-  first_one : {t u a b n o x y : ℕ} → Lies map columns column place t a n x → Lies map columns column place u b o y → t ≡ u
-  first_one {t} {u} x y = elim (dec_lt t u) [
+  first_one : {r q : Found} → Lies map columns column place r → Lies map columns column place q → r.column ≡ q.column
+  first_one {r} {q} x y = elim (dec_lt r.column q.column) [
     | yes l ↦ absurd (not_before x y.before l)
-    | no l ↦ elim (dec_lt u t) [
+    | no l ↦ elim (dec_lt q.column r.column) [
       | yes h ↦ absurd (not_before y x.before h)
       | no h ↦ omega arith
     ]
   ]
 
-module _ (map : List Bool) (columns column place : ℕ) where
-  finds_one : (f g : Found) (n o : ℕ) → FindsBy map columns column place f n → FindsBy map columns column place g o → (f ≡ g) × (n ≡ o)
-  finds_one (Column t a c) (Column u b d) n o x y =
+  found_one : {r q : Found} → Lies map columns column place r → Lies map columns column place q → r ≡ q
+  found_one {r} {q} x y =
       let e = first_one x y in
-      let start : a ≡ b = x.begins ∙ ap (body_start map columns column) e ∙ sym y.begins in
-      let size : c ≡ d = x.size ∙ sym y.size in
-      (cc, omega (arith, e, x.moved, y.moved))
-  finds_one (Column t a c) End n o x y = absurd (not_before x y.0 x.inside)
-  finds_one End (Column t a c) n o x y = absurd (not_before y x.0 y.inside)
-  finds_one End End n o x y = (refl, x.1 ∙ sym y.1)
-  finds_one (Refused f) g n o x y = absurd x
-  finds_one (Column t a c) (Refused g) n o x y = absurd y
-  finds_one End (Refused g) n o x y = absurd y
+      found_same _ _ _ _ _ _ e (x.begins ∙ ap (body_start map columns column) e ∙ sym y.begins) (x.size ∙ sym y.size)
+
+module _ (map : List Bool) (columns column place : ℕ) where
+  finds_one : (f g : Option Found) → FindsFrom map columns column place f → FindsFrom map columns column place g → f ≡ g
+  finds_one (Some r) (Some q) x y = ap Some (found_one x y)
+  finds_one (Some r) None x y = absurd (not_before x y x.inside)
+  finds_one None (Some q) x y = absurd (not_before y x y.inside)
+  finds_one None None x y = refl
 
 pub steps_one : StepsOne
 unfolding StepsOne
-steps_one image place r q x y = let (found, next) = go r.found q.found r.next q.next x y in ap₂ (λ f n. record { found = f; next = n }) found next
+steps_one image place r q x y = let (found, next) = go r.found q.found x y in ap₂ (λ f n. record { found = f; next = n }) found next
   where
-    passed : {map : List Bool} → Good image (m_in image) (k_in image) (b_in image) map → (r q : Step) → StepAt image place r → StepAt image place q → verdict_of r.found ≡ pass
-        → (r.found ≡ q.found) × (r.next ≡ q.next)
-    passed g r q x y e =
-        let told = gives_one (walk_rules image place) _ _ y.told x.told ∙ e in
-        finds_one _ _ _ place r.found q.found r.next q.next (found_step image place g r x e) (found_step image place g q y told)
-
-    go : (f h : Found) (n o : ℕ) → StepAt image place (record { found = f; next = n }) → StepAt image place (record { found = h; next = o }) → (f ≡ h) × (n ≡ o)
-    go (Column t a c) h n o x y = passed (good_step x.told x.finds.0.formed) _ _ x y refl
-    go End h n o x y = passed (good_step x.told x.finds.0.formed) _ _ x y refl
-    go (Refused f) (Refused h) n o x y = (ap Refused (refuse_one f h (gives_one (walk_rules image place) _ _ x.told y.told)), x.finds ∙ sym y.finds)
-    go (Refused f) (Column t a c) n o x y = absurd (passes_not f (gives_one (walk_rules image place) _ _ y.told x.told))
-    go (Refused f) End n o x y = absurd (passes_not f (gives_one (walk_rules image place) _ _ y.told x.told))
+    go : (f h : Result (Option Found) Refusal) {n o : ℕ} → StepAt image place (record { found = f; next = n }) → StepAt image place (record { found = h; next = o }) → (f ≡ h) × (n ≡ o)
+    go (Ok f) (Ok h) x y =
+        let (map, g) = good_step f x in
+        let (from, next) = found_step image place g f x in
+        let (other, later) = found_step image place g h y in
+        let e = finds_one map _ _ place f h from other in
+        (ap Ok e, next ∙ ap (next_of _) e ∙ sym later)
+    go (Ok f) (Err h) x y = absurd (passes_not h (gives_one (walk_rules image place) _ _ x.told y.told))
+    go (Err f) (Ok h) x y = absurd (passes_not f (gives_one (walk_rules image place) _ _ y.told x.told))
+    go (Err f) (Err h) x y = (ap Err (refuse_one f h (gives_one (walk_rules image place) _ _ x.told y.told)), x.finds ∙ sym y.finds)
 
 -- ---- the part that was found
 
@@ -113,14 +118,14 @@ good_formed {map = map} s w =
 
 pub step_tells_column : StepTellsColumn
 unfolding StepTellsColumn present_below
-step_tells_column image r m k b place column start n next map s w x part =
-    let l = found_step image.now place (good_formed s w) _ x refl in
+step_tells_column image r m k b place next found map s w x part =
+    let (l, _) = found_step image.now place (good_formed s w) (Some found) x in
     let laid = image_laid m k b map w.stripe w.sized.whole image.now w.same in
-    let size : length (body m b map w.stripe column) ≡ n = body_length m k b map w.stripe w.sized.whole column l.inside ∙ rw l.there (sym l.size) in
-    let room = mul-le-mul_right (column_length m b) (count_under (k + 2) (present map) column l.there l.inside) in
-    let fits : start + n ≤ length image.now = omega (arith, suc-mul (count column (present map)) (column_length m b), laid.size, l.begins, l.size) in
+    let size : length (body m b map w.stripe found.column) ≡ found.length = body_length m k b map w.stripe w.sized.whole found.column l.inside ∙ rw l.there (sym l.size) in
+    let room = mul-le-mul_right (column_length m b) (count_under (k + 2) (present map) found.column l.there l.inside) in
+    let fits : found.start + found.length ≤ length image.now = omega (arith, suc-mul (count found.column (present map)) (column_length m b), laid.size, l.begins, l.size) in
     let p = part.inside fits in
-    (p, p.bytes ∙ ap (λ x. take x (drop start image.now)) (sym size) ∙ stands_taken image.now start _ (rw l.begins (laid.bodies column l.inside)) (rw size fits))
+    (p, p.bytes ∙ ap (λ x. take x (drop found.start image.now)) (sym size) ∙ stands_taken image.now found.start _ (rw l.begins (laid.bodies found.column l.inside)) (rw size fits))
 
 pub walkers_one : WalkersOne
 unfolding WalkersOne
@@ -146,9 +151,9 @@ unfolding WalkTellsColumns present_columns joined
 walk_tells_columns image m k b map s w columns walked = go columns 0 (omega arith) walked
   where
     go : (columns : List ℕ) (p : ℕ) → p ≤ k + 2 → Walked image p columns → present_before p map ++ columns ≡ present_before (k + 2) map
-    go [] p h x = append-nil _ ∙ sym (over map p (k + 2) h (found_step image p (good_formed s w) _ x.step refl).0)
+    go [] p h x = append-nil _ ∙ sym (over map p (k + 2) h (found_step image p (good_formed s w) None x.step).0)
     go (t ∷ columns) p h x =
-        let l = found_step image p (good_formed s w) _ x.0.step refl in
+        let (l, _) = found_step image p (good_formed s w) _ x.0.step in
         let more : present_before t map ++ (t ∷ []) ≡ present_before (t + 1) map = rw (add-one, l.there) in
         ap (λ y. y ++ (t ∷ columns)) (sym (over map p t l.order l.before)) ∙ sym (append_assoc (present_before t map) (t ∷ []) columns)
         ∙ ap (λ y. y ++ columns) more ∙ go columns (t + 1) (omega (arith, l.inside)) x.1
@@ -158,32 +163,32 @@ module _ (map : List Bool) (columns column p : ℕ) (absent : present map p ≡ 
   absent_back n none t h l = elim (eq-or-lt_of_le h) [ inl e ↦ ap (present map) (sym e) ∙ absent | inr a ↦ none t (omega arith) l ]
 
   -- what is found after an absent column is found from it on
-  finds_back : (f : Found) (n : ℕ) → FindsBy map columns column (p + 1) f n → FindsBy map columns column p f n
-  finds_back (Column t a c) n x = record {
+  finds_back : (r : Option Found) → FindsFrom map columns column (p + 1) r → FindsFrom map columns column p r
+  finds_back (Some r) x = record {
     order = omega (arith, x.order);
     inside = x.inside;
     there = x.there;
-    before = absent_back t x.before;
+    before = absent_back r.column x.before;
     begins = x.begins;
     size = x.size;
-    moved = x.moved;
   }
-  finds_back End n x = (absent_back columns x.0, x.1)
-  finds_back (Refused f) n x = absurd x
+  finds_back None x = absent_back columns x
 
 module _ {image : List ℕ} {m k b : ℕ} {map : List Bool} (g : Good image m k b map) where
   walked_back : (p : ℕ) → p < k + 2 → present map p ≡ false → (columns : List ℕ) → Walked image (p + 1) columns → Walked image p columns
   walked_back p h absent = go
     where
-      back : (r : Step) → StepAt image (p + 1) r → verdict_of r.found ≡ pass → StepAt image p r
-      back r x e = step_found image p g r (omega arith) (finds_back map (k + 2) (column_length m b) p absent r.found r.next (found_step image (p + 1) g r x e))
+      back : (r : Option Found) {next : ℕ} → StepAt image (p + 1) (record { found = Ok r; next = next }) → StepAt image p (record { found = Ok r; next = next })
+      back r x =
+          let (from, e) = found_step image (p + 1) g r x in
+          rw e (step_found image p g r (omega arith) (finds_back map (k + 2) (column_length m b) p absent r from))
 
       go : (columns : List ℕ) → Walked image (p + 1) columns → Walked image p columns
-      go [] x = record { next = x.next; step = back _ x.step refl }
-      go (t ∷ columns) x = (record { start = x.0.start; size = x.0.size; step = back _ x.0.step refl }, x.1)
+      go [] x = record { next = x.next; step = back None x.step }
+      go (t ∷ columns) x = (record { start = x.0.start; size = x.0.size; step = back (Some _) x.0.step }, x.1)
 
   walk_from : (n p : ℕ) → p + n ≡ k + 2 → (columns : List ℕ) × Walked image p columns
-  walk_from zero p e = ([], record { next = k + 2; step = step_found image p g (record { found = End; next = k + 2 }) (omega arith) ((λ t a l. absurd (omega arith)), refl) })
+  walk_from zero p e = ([], record { next = k + 2; step = step_found image p g None (omega arith) (λ t a l. absurd (omega arith)) })
   walk_from (suc n) p e = let (columns, walked) = walk_from n (p + 1) (omega arith) in go columns walked (present map p) refl
     where
       go : (columns : List ℕ) → Walked image (p + 1) columns → (state : Bool) → present map p ≡ state → (columns : List ℕ) × Walked image p columns
@@ -193,8 +198,8 @@ module _ {image : List ℕ} {m k b : ℕ} {map : List Bool} (g : Good image m k 
           record {
             start = body_start map (k + 2) (column_length m b) p;
             size = column_length m b;
-            step = step_found image p g _ (omega arith)
-                (record { order = omega arith; inside = omega arith; there = there; before = λ t a l. absurd (omega arith); begins = refl; size = refl; moved = refl });
+            step = step_found image p g (Some _) (omega arith)
+                (record { order = omega arith; inside = omega arith; there = there; before = λ t a l. absurd (omega arith); begins = refl; size = refl });
           },
           walked,
         ),

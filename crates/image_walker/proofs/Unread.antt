@@ -12,18 +12,19 @@ use lib.Dec.{eqb}
 use lib.ListN.{length, get_or}
 use Rattle.parity.specs.Shape.{Shape, column_length}
 use Rattle.parity.proofs.Count.{count_cong}
-use Rattle.refusals.specs.Refusals.{Verdict, pass, Rule, Gives}
+use Rattle.std.specs.Prelude.{Option, Some, None, Result, Ok, Err}
+use Rattle.refusals.specs.declared.Refusal.{Refusal}
+use Rattle.refusals.specs.Refusals.{Verdict, pass, verdict_of, Rule, Gives}
 use Rattle.refusals.proofs.Rules.{passed_first, gives_passed}
 use Rattle.inputs.specs.Rules.{shape_rules}
-use Rattle.inputs.proofs.Shape.{passes_shape}
+use Rattle.inputs.proofs.ShapeLaws.{passes_shape}
 use Rattle.image.specs.Format.{bodies_at, WellFormed}
 use Rattle.image.specs.Reads.{number2, m_in, k_in, b_in, bad_header, malformed}
 use Rattle.image.specs.Entries.{number4, entry_at, says_present, Entry, body_at}
 use Rattle.image.proofs.Digits.{Bytes}
 use Rattle.image.proofs.Formed.{Right, formed_says, formed_right, right_formed}
 use Rattle.image_walker.specs.declared.steps.Found.{Found}
-use Rattle.image_walker.specs.declared.steps.Found.TheVariants.{Column, End, Refused}
-use Rattle.image_walker.specs.Steps.{past_the_end, walk_rules, verdict_of, Finds}
+use Rattle.image_walker.specs.Steps.{past_the_end, walk_rules, Finds}
 use Rattle.image_walker.specs.Determined.{StepsUnread}
 
 module _ (image other : List ℕ) (k : ℕ) (same : (x : ℕ) → x < bodies_at k → get_or other x 0 ≡ get_or image x 0) where
@@ -107,8 +108,8 @@ steps_unread image other place r bytes others size same x = record { told = told
         → WellFormed (m_in other) (k_in other) (b_in other) map other
     formed g w = rw (first, second, third) (formed_same image other (k_in image) same (shape (gives_passed (header_rules image) (rest_rules image place image) g).0) size others _ w)
 
-    finds : (f : Found) (next : ℕ) → Gives (walk_rules image place) (verdict_of f) → Finds image place f next → Finds other place f next
-    finds (Column t start n) next g (y, moved) = (
+    finds : (f : Result (Option Found) Refusal) (next : ℕ) → Gives (walk_rules image place) (verdict_of f) → Finds image place f next → Finds other place f next
+    finds (Ok (Some r)) next g (y, moved) = (
       record {
         map = y.map;
         formed = formed g y.formed;
@@ -121,5 +122,5 @@ steps_unread image other place r bytes others size same x = record { told = told
       },
       moved,
     )
-    finds End next g (y, moved) = (record { map = y.map; formed = formed g y.formed; none = rw second y.none }, rw second moved)
-    finds (Refused f) next g y = y
+    finds (Ok None) next g (y, moved) = (record { map = y.map; formed = formed g y.formed; none = rw second y.none }, rw second moved)
+    finds (Err f) next g y = y

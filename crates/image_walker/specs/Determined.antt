@@ -6,15 +6,15 @@
 --   StepTellsColumn    the part that a step found lies in the image, and is the column of every stripe whose image it is
 --   WalkTellsColumns   walked to its end, a well-formed image hands out its present columns, in order, each once
 --   WalkEnds           and of every well-formed image there is that walk
-use Rattle.std.specs.Prelude.{◌≡◌, Bool, List, ℕ, ◌<◌, length, get_or}
+use Rattle.std.specs.Prelude.{◌≡◌, Bool, List, ℕ, ◌<◌, length, get_or, Option, Some, Result, Ok}
 use Rattle.std.specs.Borrow.{Bor}
 use Rattle.parity.specs.Shape.{Shape}
+use Rattle.refusals.specs.declared.Refusal.{Refusal}
 use Rattle.evenodd.specs.Shows.{PartOf}
 use Rattle.evenodd.specs.Determined.{SamePart}
 use Rattle.image.specs.Format.{bodies_at, body, WellFormed}
 use Rattle.image.specs.Reads.{k_in}
 use Rattle.image_walker.specs.declared.steps.Found.{Found}
-use Rattle.image_walker.specs.declared.steps.Found.TheVariants.{Column}
 use Rattle.image_walker.specs.declared.steps.Step.{Step}
 use Rattle.image_walker.specs.declared.walker.Walker.{Walker}
 use Rattle.image_walker.specs.Steps.{StepAt, PartAt}
@@ -28,15 +28,15 @@ StepsUnread = (image other : List ℕ) (place : ℕ) (r : Step) → ((x : ℕ) �
     → length other ≡ length image → ((x : ℕ) → x < bodies_at (k_in image) → get_or other x 0 ≡ get_or image x 0) → StepAt image place r → StepAt other place r
 
 unfoldable pub PartsOne : Type 0
-PartsOne = (image : Bor (List ℕ)) (found : Found) (r q : Bor (List ℕ)) → PartAt image found r → PartAt image found q → SamePart r q
+PartsOne = (image : Bor (List ℕ)) (found : Result (Option Found) Refusal) (r q : Bor (List ℕ)) → PartAt image found r → PartAt image found q → SamePart r q
 
 unfoldable pub WalkersOne : Type 0
 WalkersOne = (image : Bor (List ℕ)) (place : ℕ) (w v : Walker) → Walks image place w → Walks image place v → w ≡ v
 
 unfoldable pub StepTellsColumn : Type 0
-StepTellsColumn = (image r : Bor (List ℕ)) (m k b place column start n next : ℕ) (map : List Bool) → Shape m k b → (w : WellFormed m k b map image.now)
-    → StepAt image.now place (record { found = Column column start n; next = next }) → PartAt image (Column column start n) r
-    → PartOf image start n r × (r.now ≡ body m b map w.stripe column)
+StepTellsColumn = (image r : Bor (List ℕ)) (m k b place next : ℕ) (found : Found) (map : List Bool) → Shape m k b → (w : WellFormed m k b map image.now)
+    → StepAt image.now place (record { found = Ok (Some found); next = next }) → PartAt image (Ok (Some found)) r
+    → PartOf image found.start found.length r × (r.now ≡ body m b map w.stripe found.column)
 
 unfoldable pub WalkTellsColumns : Type 0
 WalkTellsColumns = (image : List ℕ) (m k b : ℕ) (map : List Bool) → Shape m k b → WellFormed m k b map image

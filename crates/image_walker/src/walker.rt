@@ -3,6 +3,7 @@ ghost use Rattle.image_walker.specs.Steps.{StepAt, PartAt};
 ghost use Rattle.image_walker.specs.Walks.{Walks};
 
 use crate::steps::{Found, Step, part_at, step_at};
+use refusals::Refusal;
 
 #[derive(Clone, Copy)]
 pub struct Walker<'a> {
@@ -26,7 +27,7 @@ impl<'a> Walker<'a> {
     }
 
     // The bytes of what was found: a part of its image.
-    pub fn part(self, found: Found) -> &'a [u8]
+    pub fn part(self, found: Result<Option<Found>, Refusal>) -> &'a [u8]
         ensures { PartAt self.entry.image found result }
     {
         part_at(self.image, found)

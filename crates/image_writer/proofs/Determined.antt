@@ -12,9 +12,9 @@ use Rattle.parity.specs.Shape.{column_length}
 use Rattle.parity.specs.Presence.{present, differs, Agrees}
 use Rattle.parity.proofs.Bytes.{byte_at, row_at}
 use Rattle.parity.proofs.Columns.{same_column}
+use Rattle.std.specs.Prelude.{Ok, Err}
 use Rattle.refusals.proofs.Rules.{passes_not, refuse_one, gives_one}
 use Rattle.image.specs.Format.{entry, joined, body, image_of}
-use Rattle.image_writer.specs.declared.writing.Written.TheVariants.{Length, Refused}
 use Rattle.image_writer.specs.Pieces.{four_numbers, body_of}
 use Rattle.image_writer.specs.Writes.{write_rules}
 use Rattle.image_writer.specs.Determined.{WritesOne, ImageUnread, WritesUnread}
@@ -22,13 +22,13 @@ use Rattle.image_writer.proofs.Joining.{joined_same}
 
 pub writes_one : WritesOne
 unfolding WritesOne
-writes_one m k b map s before x y (Length n) (Length o) p q =
+writes_one m k b map s before x y (Ok n) (Ok o) p q =
     let e = p.left.0 ∙ sym q.left.0 in
-    (ap Length e, p.left.1 ∙ ap (λ z. image_of m k b map.places s ++ drop z before) e ∙ sym q.left.1)
-writes_one m k b map s before x y (Length n) (Refused g) p q = absurd (passes_not g (gives_one (write_rules m k b map s (length before)) _ _ p.told q.told))
-writes_one m k b map s before x y (Refused f) (Length o) p q = absurd (passes_not f (gives_one (write_rules m k b map s (length before)) _ _ q.told p.told))
-writes_one m k b map s before x y (Refused f) (Refused g) p q =
-    (ap Refused (refuse_one f g (gives_one (write_rules m k b map s (length before)) _ _ p.told q.told)), p.left ∙ sym q.left)
+    (ap Ok e, p.left.1 ∙ ap (λ z. image_of m k b map.places s ++ drop z before) e ∙ sym q.left.1)
+writes_one m k b map s before x y (Ok n) (Err g) p q = absurd (passes_not g (gives_one (write_rules m k b map s (length before)) _ _ p.told q.told))
+writes_one m k b map s before x y (Err f) (Ok o) p q = absurd (passes_not f (gives_one (write_rules m k b map s (length before)) _ _ q.told p.told))
+writes_one m k b map s before x y (Err f) (Err g) p q =
+    (ap Err (refuse_one f g (gives_one (write_rules m k b map s (length before)) _ _ p.told q.told)), p.left ∙ sym q.left)
 
 -- where a column has a place, a cell has a byte
 some_byte : (m b j : ℕ) → j < column_length m b → 0 < b

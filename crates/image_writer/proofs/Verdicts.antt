@@ -4,7 +4,7 @@
 --   marked_good, counted      and where the judgement says so; as many columns are present as the map counts
 --   image_length              the length of an image
 --   write_passes              where all this is so, and the buffer is long enough, the writer's rules pass
---   write_refused, write_short, write_good    what `write` promises, by the way out
+--   write_short, write_good   what `write` promises, by the way out
 use mathlib.Core.Path.{◌≡◌, refl, sym, ap, ◌∙◌}
 use mathlib.Core.Bool.{Bool}
 use mathlib.Core.List.{List, [], ◌∷◌, ◌++◌}
@@ -13,7 +13,7 @@ use native.Mathlib.Omega.{arith}
 use lib.ListN.{length, drop, take-append-drop}
 use Rattle.parity.specs.Shape.{Shape, column_length, stripe_length}
 use Rattle.parity.specs.Presence.{present}
-use Rattle.refusals.specs.declared.Refusal.{Refusal}
+use Rattle.std.specs.Prelude.{Ok, Err}
 use Rattle.refusals.specs.declared.Refusal.TheVariants.{ShortBuffer}
 use Rattle.refusals.specs.Refusals.{pass, Gives}
 use Rattle.refusals.proofs.Rules.{gives_first, gives_next, gives_after, gives_passed, passed_first}
@@ -22,17 +22,12 @@ use Rattle.maps.specs.Absent.{Stray}
 use Rattle.maps.specs.Truth.{TrueMap}
 use Rattle.maps.proofs.Present.{same_count}
 use Rattle.maps.proofs.Truth.{not_lying}
-use Rattle.inputs.specs.declared.shapes.Judged.{Judged}
-use Rattle.inputs.specs.declared.shapes.Judged.TheVariants.{Good, Refused}
 use Rattle.inputs.specs.Rules.{stripe_rules, map_rules}
-use Rattle.inputs.specs.Shapes.{refusal_of}
-use Rattle.inputs.proofs.Shape.{places_most}
+use Rattle.inputs.proofs.ShapeLaws.{places_most}
 use Rattle.inputs.proofs.Stripe.{stripe_given, stripe_passed}
-use Rattle.inputs.proofs.Tests.{told_refused, told_passed, good_column_lem}
 use Rattle.text.specs.Text.{Wrote}
 use Rattle.image.specs.Format.{joined, bodies_at, present_below, image_of}
 use Rattle.image.proofs.Laid.{image_laid}
-use Rattle.image_writer.specs.declared.writing.Written.TheVariants as written
 use Rattle.image_writer.specs.Writes.{short_buffer, marked_rules, write_rules, Writes}
 use Rattle.image_writer.specs.Pieces.{four_numbers, entry_of, body_of, JudgesMarked}
 use Rattle.image_writer.proofs.Joining.{image_same}
@@ -60,8 +55,8 @@ module _ (m k b : ℕ) (map : Map) where
     marked_passed g =
         gives_after (stripe_rules m k b n) (map_rules k map) pass (stripe_passed m k b n g.shape g.stripe) (gives_next (λ lies. lies g.truth) (gives_next g.clear refl))
 
-    pub marked_good : (j : Judged) {c : ℕ} → JudgesMarked m k b map n j → j ≡ Good c → Marked n × (c ≡ column_length m b)
-    marked_good j h e = (marked_given (told_passed (marked_rules m k b map n) j h.told e), good_column_lem m b j h.column e)
+    pub marked_good : {c : ℕ} → JudgesMarked m k b map n (Ok c) → Marked n × (c ≡ column_length m b)
+    marked_good h = (marked_given h.told, h.column)
 
     pub counted : Marked n → map.present ≡ present_below (k + 2) map.places
     unfolding present_below
@@ -72,18 +67,12 @@ module _ (m k b : ℕ) (map : Map) where
     write_passes g room =
         gives_after (marked_rules m k b map (length s)) (short_buffer (image_of m k b map.places s) (length before) ∷ []) pass (marked_passed (length s) g) (gives_next (λ short. omega arith) refl)
 
-    pub write_refused : (j : Judged) {f g : Refusal} → JudgesMarked m k b map (length s) j → j ≡ Refused f → g ≡ refusal_of j → Writes m k b map s before before (written.Refused g)
-    write_refused j h e q = record {
-      told = told_refused (marked_rules m k b map (length s)) (short_buffer (image_of m k b map.places s) (length before) ∷ []) j h.told e q;
-      left = refl;
-    }
-
     module _ (g : Marked (length s)) {c : ℕ} (column : c ≡ column_length m b) where
       -- the length as it is reckoned
       reckoned : length (image_of m k b map.places s) ≡ bodies_at k + map.present * c
       reckoned = rw (counted (length s) g, column) (image_length m k b map.places s g.stripe)
 
-      pub write_short : length before < bodies_at k + map.present * c → Writes m k b map s before before (written.Refused ShortBuffer)
+      pub write_short : length before < bodies_at k + map.present * c → Writes m k b map s before before (Err ShortBuffer)
       write_short l = record {
         told = gives_after (marked_rules m k b map (length s)) (short_buffer (image_of m k b map.places s) (length before) ∷ []) _ (marked_passed (length s) g) (gives_first (omega (arith, reckoned)));
         left = refl;
@@ -91,7 +80,7 @@ module _ (m k b : ℕ) (map : Map) where
 
       pub write_good : (after : List ℕ) (n : ℕ) → bodies_at k + map.present * c ≤ length before
           → Wrote before after 0 n (four_numbers m k b 0 ++ (joined (k + 2) (λ t. entry_of t (present map.places t) (bodies_at k + present_below t map.places * c)) ++ joined (k + 2) (body_of map.places c s)))
-          → Writes m k b map s before after (written.Length n)
+          → Writes m k b map s before after (Ok n)
       write_good after n room w =
           let same : four_numbers m k b 0 ++ (joined (k + 2) (λ t. entry_of t (present map.places t) (bodies_at k + present_below t map.places * c)) ++ joined (k + 2) (body_of map.places c s)) ≡ image_of m k b map.places s =
           rw column (image_same m k b map.places s) in

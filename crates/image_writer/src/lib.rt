@@ -5,4 +5,4 @@
 mod pieces;
 mod writing;
 
-pub use writing::{Written, write};
+pub use writing::write;

@@ -1,19 +1,20 @@
-// The pieces of an image, one after another. Each call writes at a place and answers the place after it.
+// The pieces of an image, one after another. Each call writes at a place and answers the place after it: buffer and place stay two parameters, as in crate text,
+// whose calls are made here and whose `Wrote` speaks of both. In the loops t is the column's number, by which map and stripe are read: no iterator is plainer.
 ghost use Rattle.std.specs.Prelude.{◌≡◌, true, ◌+◌, ◌*◌, ◌≤◌, length};
 ghost use Rattle.parity.specs.Presence.{present};
 ghost use Rattle.text.specs.Text.{Wrote};
 ghost use Rattle.image.specs.Format.{le2, joined, present_below};
 ghost use Rattle.image_writer.specs.Pieces.{four_numbers, entry_of, body_of};
 
-use evenodd::Map;
+use maps::Map;
 
 // Writes the lowest sixteen bits of a number, the lower byte first.
 fn put_number(image: &mut [u8], at: usize, n: usize) -> usize
     requires { at + 2 ≤ length image.old }
     ensures { Wrote image.old image.new at result (le2 n) }
 {
-    let next = text::put_byte(image, at, (n % 256) as u8);
-    text::put_byte(image, next, (n / 256 % 256) as u8)
+    let low = (n % 65536) as u16;
+    text::put_word(image, at, &low.to_le_bytes())
 }
 
 // Writes four numbers so, one after another.

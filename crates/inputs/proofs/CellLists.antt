@@ -2,7 +2,6 @@
 --   ListNumbers, lists_good   what is known where the numbers, the stripe's length and those of the lists are right
 --   lists_given, lists_passed   the rules pass exactly then; lists_refused: where the lists are not right
 --   passes_item, item_passes    an item passes exactly where it names a cell of the data
---   items_good, items_refused   what the answer to the items says
 --   before_pass, first_seven, first_eleven   the items before the first that names none pass, and why that one is refused
 use mathlib.Core.Path.{◌≡◌, refl}
 use mathlib.Core.Logic.{◌≢◌, ◌⊎◌, inl, inr}
@@ -11,18 +10,14 @@ use Prim.Native.Nat.{ℕ, ◌-◌, ◌*◌, ◌≤◌, ◌<◌}
 use native.Mathlib.Omega.{arith}
 use lib.ListN.{length, get_or}
 use Rattle.parity.specs.Shape.{Shape, stripe_length}
-use Rattle.refusals.specs.declared.Refusal.{Refusal}
 use Rattle.refusals.specs.declared.Refusal.TheVariants.{NoSuchColumn, NoSuchRow, WrongLists}
 use Rattle.refusals.specs.Refusals.{pass, Gives, EachPasses, FirstRefused}
 use Rattle.refusals.proofs.Rules.{gives_first, gives_next, gives_after, gives_passed, passed_first, equal_of}
-use Rattle.inputs.specs.declared.lists.Items.{Items}
-use Rattle.inputs.specs.declared.lists.Items.TheVariants as items
-use Rattle.inputs.specs.declared.shapes.Judged.{Judged}
-use Rattle.inputs.specs.declared.shapes.Judged.TheVariants.{Good, Refused}
+use Rattle.std.specs.Prelude.{Ok, Err}
 use Rattle.inputs.specs.Rules.{wrong_lists, stripe_rules, list_rules, item_rules}
-use Rattle.inputs.specs.Lists.{JudgesLists, OfData, FirstOutside, rules_of, JudgesItems}
+use Rattle.inputs.specs.Lists.{JudgesLists, OfData, FirstOutside, rules_of}
 use Rattle.inputs.proofs.Stripe.{stripe_passed, stripe_given}
-use Rattle.inputs.proofs.Tests.{told_passed, good_column_lem, Numbers}
+use Rattle.inputs.proofs.Tests.{Numbers}
 
 module _ (b n rows cells : ℕ) where
   -- what is asked of the lists
@@ -48,7 +43,7 @@ module _ (m k b n columns rows cells : ℕ) where
   pub lists_passed : Shape m k b → n ≡ stripe_length m k b → Lists b columns rows cells → Gives (list_rules m k b n columns rows cells) pass
   lists_passed h e ok = gives_after (stripe_rules m k b n) (wrong_lists b columns rows cells ∷ []) pass (stripe_passed m k b n h e) (gives_next (right_lists b columns rows cells ok) refl)
 
-  pub lists_refused : Shape m k b → n ≡ stripe_length m k b → (rows ≢ columns) ⊎ (256 < columns) ⊎ (cells ≢ columns * b) → JudgesLists m k b n columns rows cells (Refused WrongLists)
+  pub lists_refused : Shape m k b → n ≡ stripe_length m k b → (rows ≢ columns) ⊎ (256 < columns) ⊎ (cells ≢ columns * b) → JudgesLists m k b n columns rows cells (Err WrongLists)
   lists_refused h e wrong = record { told = gives_after (stripe_rules m k b n) (wrong_lists b columns rows cells ∷ []) _ (stripe_passed m k b n h e) (gives_first wrong); column = tt }
 
   pub lists_given : Gives (list_rules m k b n columns rows cells) pass → Shape m k b × (n ≡ stripe_length m k b) × Lists b columns rows cells
@@ -57,10 +52,10 @@ module _ (m k b n columns rows cells : ℕ) where
       let (shape, whole) = stripe_given m k b n first in
       (shape, whole, lists_right b columns rows cells (passed_first rest).0)
 
-  pub lists_good : (j : Judged) {c : ℕ} → JudgesLists m k b n columns rows cells j → j ≡ Good c → ListNumbers c
-  lists_good j h e =
-      let (shape, whole, lists) = lists_given (told_passed (list_rules m k b n columns rows cells) j h.told e) in
-      record { numbers = record { shape = shape; column = good_column_lem m b j h.column e; stripe = whole }; lists = lists }
+  pub lists_good : {c : ℕ} → JudgesLists m k b n columns rows cells (Ok c) → ListNumbers c
+  lists_good h =
+      let (shape, whole, lists) = lists_given h.told in
+      record { numbers = record { shape = shape; column = h.column; stripe = whole }; lists = lists }
 
 module _ (m k column row : ℕ) where
   pub passes_item : OfData m k column row → Gives (item_rules m k column row) pass
@@ -81,12 +76,3 @@ module _ {m k : ℕ} {columns rows : List ℕ} {n : ℕ} (first : FirstOutside m
   first_eleven h t =
       let out : get_or rows n 0 < m - 1 → ⊥ = λ i. first.there h (t, i) in
       record { inside = h; before = before_pass; refused = gives_next (λ x. omega arith) (gives_first (omega arith)) }
-
-module _ (m k : ℕ) (columns rows : List ℕ) where
-  pub items_good : (j : Items) → JudgesItems m k columns rows j → j ≡ items.Good → EachPasses (rules_of m k columns rows) (length columns)
-  items_good items.Good h e = h
-  items_good (items.Refused i g) h e = absurd (let z : ◌≡◌ {A = ℕ} 0 1 = cc in omega arith)
-
-  pub items_refused : (j : Items) {item : ℕ} {f : Refusal} → JudgesItems m k columns rows j → j ≡ items.Refused item f → FirstRefused (rules_of m k columns rows) (length columns) item f
-  items_refused items.Good h e = absurd (let z : ◌≡◌ {A = ℕ} 0 1 = cc in omega arith)
-  items_refused (items.Refused i g) {item} {f} h e = let same : item ≡ i = cc in let refusal : f ≡ g = cc in rw (same, refusal) h

@@ -1,5 +1,5 @@
 -- Laws that belong to no one function.
-pub mod Shape
+pub mod ShapeLaws
 pub mod Stripe
 pub mod Tests
 pub mod CellLists

@@ -8,7 +8,7 @@ use Rattle.parity.specs.Shape.{Shape, stripe_length}
 use Rattle.refusals.specs.Refusals.{pass, Gives}
 use Rattle.inputs.specs.Rules.{stripe_length_differs, stripe_rules}
 use Rattle.refusals.proofs.Rules.{gives_next, passed_first, equal_of}
-use Rattle.inputs.proofs.Shape.{after_shape, passed_shape}
+use Rattle.inputs.proofs.ShapeLaws.{after_shape, passed_shape}
 
 module _ (m k b n : ℕ) where
   pub stripe_passed : Shape m k b → n ≡ stripe_length m k b → Gives (stripe_rules m k b n) pass

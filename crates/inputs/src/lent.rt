@@ -1,77 +1,63 @@
 // The tests that the calls share: on the numbers, on what is lent, and on the map.
-ghost use Rattle.std.specs.Prelude.{◌≡◌};
-ghost use Rattle.inputs.specs.Tests.{JudgesStripe, JudgesLent, JudgesGaps, refusal_of};
+ghost use Rattle.std.specs.Prelude.{◌≡◌, ◌≤◌};
+ghost use Rattle.inputs.specs.Tests.{JudgesStripe, JudgesMap, JudgesLent, JudgesGaps};
 
-use crate::shapes::{Judged, judge};
+use crate::shapes::{Shape, judge};
 use maps::{Gaps, Map, reaches};
 use refusals::Refusal;
 
-// What is found where at most two columns are absent: the bytes of a column, and the gaps; or why not.
-#[derive(Clone, Copy)]
-pub enum Given {
-    Good { column: usize, gaps: Gaps },
-    Refused(Refusal),
-}
-
-impl Given {
-    // The refusal that is carried. What is good carries none; of it the answer is WrongM.
-    pub fn refusal(self) -> Refusal
-        ensures { result ≡ refusal_of self }
-    {
-        match self {
-            Given::Refused(r) => r,
-            Given::Good { column: _, gaps: _ } => Refusal::WrongM,
-        }
-    }
-}
-
-// Judges three numbers, and the length of a stripe.
-pub fn judge_stripe(m: usize, k: usize, b: usize, length: usize) -> Judged
-    ensures { JudgesStripe m k b length result }
+// Judges three numbers, and the length of a stripe. How many bytes a column has.
+pub fn judge_stripe(shape: Shape, length: usize) -> Result<usize, Refusal>
+    ensures { JudgesStripe shape.m shape.k shape.b length result }
 {
-    let judged = judge(m, k, b);
-    let Judged::Good { column } = judged else {
-        return judged;
-    };
-    if length != (k + 2) * column {
-        return Judged::Refused(Refusal::StripeLength);
+    let column = judge(shape)?;
+    if length != (shape.k + 2) * column {
+        return Err(Refusal::StripeLength);
     }
-    judged
+    Ok(column)
 }
 
-// Judges three numbers, the lengths of a stripe and of a bench, that the map is true, and that no place past the columns is present.
-pub fn judge_lent(m: usize, k: usize, b: usize, map: Map, length: usize, held: usize) -> Judged
-    ensures { JudgesLent m k b map length held result }
+// Judges that the map is true, and that no place past k + 2 columns is present.
+pub fn judge_map(k: usize, map: Map) -> Result<(), Refusal>
+    requires { k ≤ 127 }
+    ensures { JudgesMap k map result }
 {
-    let judged = judge_stripe(m, k, b, length);
-    let Judged::Good { column } = judged else {
-        return judged;
-    };
-    if held != 2 * column {
-        return Judged::Refused(Refusal::BenchLength);
-    }
     if !map.is_true() {
-        return Judged::Refused(Refusal::LyingMap);
+        return Err(Refusal::LyingMap);
     }
     if reaches(map, k + 2) {
-        return Judged::Refused(Refusal::StrayColumn);
+        return Err(Refusal::StrayColumn);
     }
-    judged
+    Ok(())
 }
 
-// Judges the same, and that at most two columns are absent.
-pub fn judge_gaps(m: usize, k: usize, b: usize, map: Map, length: usize, held: usize) -> Given
-    ensures { JudgesGaps m k b map length held result }
+// Judges three numbers, the lengths of a stripe and of a bench, that the map is true, and that no place past the columns is present. How many bytes a column
+// has.
+pub fn judge_lent(shape: Shape, map: Map, length: usize, held: usize) -> Result<usize, Refusal>
+    ensures { JudgesLent shape.m shape.k shape.b map length held result }
 {
-    let judged = judge_lent(m, k, b, map, length, held);
-    let Judged::Good { column } = judged else {
-        return Given::Refused(judged.refusal());
-    };
-    let columns = k + 2;
+    let column = judge_stripe(shape, length)?;
+    if held != 2 * column {
+        return Err(Refusal::BenchLength);
+    }
+    judge_map(shape.k, map)?;
+    Ok(column)
+}
+
+// Judges the same, and that at most two columns are absent. How many bytes a column has, and the gaps.
+pub fn judge_gaps(
+    shape: Shape,
+    map: Map,
+    length: usize,
+    held: usize,
+) -> Result<(usize, Gaps), Refusal>
+    ensures { JudgesGaps shape.m shape.k shape.b map length held result }
+{
+    let column = judge_lent(shape, map, length, held)?;
+    let columns = shape.k + 2;
     let absent = columns - map.present;
     if 2 < absent {
-        return Given::Refused(Refusal::Ambiguous);
+        return Err(Refusal::Ambiguous);
     }
-    let gaps = map.gaps(columns);
-    Given::Good { column, gaps }
+    Ok((column, map.gaps(columns)))
 }

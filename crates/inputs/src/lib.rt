@@ -5,6 +5,6 @@ mod lent;
 mod lists;
 mod shapes;
 
-pub use lent::{Given, judge_gaps, judge_lent, judge_stripe};
-pub use lists::{Items, judge_items, judge_lists};
-pub use shapes::{Judged, judge};
+pub use lent::{judge_gaps, judge_lent, judge_map, judge_stripe};
+pub use lists::{ListRefusal, judge_items, judge_lists};
+pub use shapes::{Shape, judge};

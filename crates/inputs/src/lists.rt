@@ -1,44 +1,72 @@
-// The tests of lists that name cells of a stripe's data: on their lengths, and item by item on the column and the row.
+// The tests of lists that name cells of a stripe's data: on their lengths, and item by item on the column and the row. The lists stand side by side, as C lends
+// them.
 ghost use Rattle.std.specs.Prelude.{◌≡◌, ◌↔◌, true, ◌≤◌, length};
-ghost use Rattle.inputs.specs.Lists.{OfData, FirstOutside, JudgesLists, JudgesItems};
+ghost use Rattle.inputs.specs.Lists.{OfData, FirstOutside, JudgesLists, JudgesItems, item_of, refusal_of};
+ghost use Rattle.inputs.specs.declared.lists.ListRefusal.TheVariants.{Whole};
 
 use crate::lent::judge_stripe;
-use crate::shapes::Judged;
+use crate::shapes::Shape;
 use refusals::Refusal;
 
-// What is found of the items: each names a cell of the data; or the first that does not, and why.
-#[derive(Clone, Copy)]
-pub enum Items {
-    Good,
-    Refused(usize, Refusal),
+// Why lists of cells are refused: as a whole, or for an item, whose number stands with its refusal.
+#[derive(Clone, Copy, Debug, PartialEq, Eq)]
+pub enum ListRefusal {
+    Whole(Refusal),
+    Item(usize, Refusal),
 }
 
-// Judges three numbers, the length of a stripe, and those of a list of columns, of a list of rows and of the new bytes of their cells.
+impl From<Refusal> for ListRefusal {
+    ghost from_gives = { λ r e. e ≡ Whole r };
+
+    // A refusal that names no item is of the lists as a whole.
+    fn from(refusal: Refusal) -> ListRefusal {
+        ListRefusal::Whole(refusal)
+    }
+}
+
+impl ListRefusal {
+    // The number of the item that is refused; 256 where none is named, as the C interface has it.
+    pub fn item(self) -> usize
+        ensures { result ≡ item_of self }
+    {
+        match self {
+            ListRefusal::Whole(_) => 256,
+            ListRefusal::Item(item, _) => item,
+        }
+    }
+
+    // Why.
+    pub fn refusal(self) -> Refusal
+        ensures { result ≡ refusal_of self }
+    {
+        match self {
+            ListRefusal::Whole(why) => why,
+            ListRefusal::Item(_, why) => why,
+        }
+    }
+}
+
+// Judges three numbers, the length of a stripe, and those of a list of columns, of a list of rows and of the new bytes of their cells. How many bytes a column has.
 pub fn judge_lists(
-    m: usize,
-    k: usize,
-    b: usize,
+    shape: Shape,
     length: usize,
     columns: usize,
     rows: usize,
     cells: usize,
-) -> Judged
-    ensures { JudgesLists m k b length columns rows cells result }
+) -> Result<usize, Refusal>
+    ensures { JudgesLists shape.m shape.k shape.b length columns rows cells result }
 {
-    let judged = judge_stripe(m, k, b, length);
-    let Judged::Good { column: _ } = judged else {
-        return judged;
-    };
+    let column = judge_stripe(shape, length)?;
     if rows != columns {
-        return Judged::Refused(Refusal::WrongLists);
+        return Err(Refusal::WrongLists);
     }
     if 256 < columns {
-        return Judged::Refused(Refusal::WrongLists);
+        return Err(Refusal::WrongLists);
     }
-    if cells != columns * b {
-        return Judged::Refused(Refusal::WrongLists);
+    if cells != columns * shape.b {
+        return Err(Refusal::WrongLists);
     }
-    judged
+    Ok(column)
 }
 
 // Whether the data has a cell in that row of that column.
@@ -57,25 +85,25 @@ fn find_outside(m: usize, k: usize, columns: &[usize], rows: &[usize]) -> usize
     requires { (1 ≤ m) × (length rows.now ≡ length columns.now) }
     ensures { FirstOutside m k columns.now rows.now result }
 {
-    for n in 0..columns.len() {
-        if !is_of_data(m, k, columns[n], rows[n]) {
-            return n;
-        }
-    }
-    columns.len()
+    columns
+        .iter()
+        .zip(rows)
+        .position(|(&column, &row)| !is_of_data(m, k, column, row))
+        .unwrap_or(columns.len())
 }
 
 // Judges the items of two lists in their order, up to the first that is refused.
-pub fn judge_items(m: usize, k: usize, columns: &[usize], rows: &[usize]) -> Items
-    requires { (1 ≤ m) × (length rows.now ≡ length columns.now) }
-    ensures { JudgesItems m k columns.now rows.now result }
+pub fn judge_items(shape: Shape, columns: &[usize], rows: &[usize]) -> Result<(), ListRefusal>
+    requires { (1 ≤ shape.m) × (length rows.now ≡ length columns.now) }
+    ensures { JudgesItems shape.m shape.k columns.now rows.now result }
 {
+    let Shape { m, k, b: _ } = shape;
     let item = find_outside(m, k, columns, rows);
     if item == columns.len() {
-        return Items::Good;
+        return Ok(());
     }
     if k <= columns[item] {
-        return Items::Refused(item, Refusal::NoSuchColumn);
+        return Err(ListRefusal::Item(item, Refusal::NoSuchColumn));
     }
-    Items::Refused(item, Refusal::NoSuchRow)
+    Err(ListRefusal::Item(item, Refusal::NoSuchRow))
 }

@@ -1,42 +1,30 @@
 // The shape check.
 ghost use Rattle.std.specs.Prelude.{◌≡◌};
-ghost use Rattle.inputs.specs.Shapes.{Judges, refusal_of};
+ghost use Rattle.inputs.specs.Shapes.{Judges};
 
 use refusals::Refusal;
 
-// What the shape check says: the bytes of a column, of a shape that keeps the rules; or the refusal.
-#[derive(Clone, Copy)]
-pub enum Judged {
-    Good { column: usize },
-    Refused(Refusal),
+// The three numbers of a shape, whatever they are: `judge` says whether they are one.
+#[derive(Clone, Copy, Debug, PartialEq, Eq)]
+pub struct Shape {
+    pub m: usize,
+    pub k: usize,
+    pub b: usize,
 }
 
-impl Judged {
-    // The refusal that is carried. A good shape carries none; of it the answer is WrongM.
-    pub fn refusal(self) -> Refusal
-        ensures { result ≡ refusal_of self }
-    {
-        match self {
-            Judged::Refused(r) => r,
-            Judged::Good { column: _ } => Refusal::WrongM,
-        }
-    }
-}
-
-// Judges three numbers, whatever they are: m alone, then k against m, then b alone.
-pub fn judge(m: usize, k: usize, b: usize) -> Judged
-    ensures { Judges m k b result }
+// Judges three numbers: m alone, then k against m, then b alone. Of a shape that keeps the rules it says how many bytes a column has.
+pub fn judge(shape: Shape) -> Result<usize, Refusal>
+    ensures { Judges shape.m shape.k shape.b result }
 {
+    let Shape { m, k, b } = shape;
     if !parity::is_accepted(m) {
-        return Judged::Refused(Refusal::WrongM);
+        return Err(Refusal::WrongM);
     }
     if k == 0 || m < k {
-        return Judged::Refused(Refusal::WrongK);
+        return Err(Refusal::WrongK);
     }
     if b == 0 || 4096 < b {
-        return Judged::Refused(Refusal::WrongB);
+        return Err(Refusal::WrongB);
     }
-    Judged::Good {
-        column: (m - 1) * b,
-    }
+    Ok((m - 1) * b)
 }

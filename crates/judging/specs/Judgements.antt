@@ -1,7 +1,7 @@
 -- What is judged of an image.
 --   Formed image shape map      the image is well formed, with that shape and map
 --   longest                     the most bytes that an image may have: a longer one is refused with 10
---   verdict_of                   the verdict of an outcome
+--   outcome_verdict, verdict_of    the verdict of an outcome, and of what is judged of a well-formed image
 --   part_rules                   the refusal of an image whose parts have their lengths: 5
 --   stripe_too_short, bench_too_short    2 and 3: the lent buffers are too short
 --   formed_rules                 the refusals of a well-formed image, in order: 4, 2, 3, 5
@@ -9,8 +9,10 @@
 --   Benches                     the bench after the judgement; where every column is there, whether that valid stripe is blank decides the outcome
 --   JudgesParts                 what is judged in a stripe and a bench of exactly the lengths that the shape asks for
 --   JudgesFormed                what is judged of a well-formed image: the parts that are written begin the lent buffers, and the rest of them stays
+--   outcome_of                   what a judgement says came of the image; where there is none, its refusal
+--   Names                       there is a judgement, with that shape and that map, whatever came of the image
 --   JudgesImage                 what is judged of an image: 10 first, then what its contents say, then the judgement of a well-formed one
-use Rattle.std.specs.Prelude.{◌≡◌, ◌⊎◌, List, [], ◌∷◌, ℕ, ◌≤◌, ◌<◌, length, take, drop}
+use Rattle.std.specs.Prelude.{◌≡◌, ◌⊎◌, List, [], ◌∷◌, ℕ, ◌≤◌, ◌<◌, length, take, drop, Result, Ok, Err, IsOkAnd}
 use Rattle.parity.specs.Shape.{stripe_length, bench_length}
 use Rattle.parity.specs.Stripe.{Blank}
 use Rattle.maps.specs.declared.Map.{Map}
@@ -18,12 +20,10 @@ use Rattle.refusals.specs.declared.Refusal.{Refusal}
 use Rattle.refusals.specs.declared.Refusal.TheVariants as refusal
 use Rattle.refusals.specs.Refusals.{Verdict, pass, refuse, Rule, Gives}
 use Rattle.inputs.specs.Rules.{too_many_absent, contradicted}
-use Rattle.maps.specs.Maps.{New}
 use Rattle.evenodd.specs.Restores.{RestoredFrom}
-use Rattle.image.specs.declared.answers.Read.TheVariants as read
+use Rattle.inputs.specs.declared.shapes.Shape.{Shape}
 use Rattle.image.specs.declared.answers.Contents.{Contents}
 use Rattle.image.specs.Reads.{contents_rules, ContentsOf, Filled}
-use Rattle.judging.specs.declared.Shape.{Shape}
 use Rattle.judging.specs.declared.Outcome.{Outcome}
 use Rattle.judging.specs.declared.Outcome.TheVariants as outcome
 use Rattle.judging.specs.declared.Judgement.{Judgement}
@@ -33,14 +33,17 @@ longest = 16384
 
 -- the contents say that shape and that map
 abbrev pub Formed : List ℕ → Shape → Map → Type 0
-Formed image shape map = ContentsOf image (record { answer = read.Shape shape.m shape.k shape.b; map = map })
+Formed image shape map = ContentsOf image (Ok (record { shape = shape; map = map }))
 
-abbrev pub verdict_of : Outcome → Verdict
-verdict_of (outcome.Complete shape) = pass
-verdict_of (outcome.Blank shape) = pass
-verdict_of (outcome.Ambiguous shape) = refuse refusal.Ambiguous
-verdict_of (outcome.Contradicted shape) = refuse refusal.Contradicted
-verdict_of (outcome.Refused f) = refuse f
+abbrev pub outcome_verdict : Outcome → Verdict
+outcome_verdict outcome.Complete = pass
+outcome_verdict outcome.Blank = pass
+outcome_verdict outcome.Ambiguous = refuse refusal.Ambiguous
+outcome_verdict outcome.Contradicted = refuse refusal.Contradicted
+
+abbrev pub verdict_of : Result Outcome Refusal → Verdict
+verdict_of (Ok o) = outcome_verdict o
+verdict_of (Err f) = refuse f
 
 abbrev pub part_rules : Shape → Map → List ℕ → List Rule
 part_rules shape map s = contradicted shape.m shape.k shape.b map s ∷ []
@@ -53,15 +56,14 @@ pub record Complete (shape : Shape) (map : Map) (s before after : List ℕ) : Ty
 
 -- the bench after the judgement of a stripe s that has been read. With at most two columns absent one valid stripe alone agrees, so there is one to be blank or not
 abbrev pub Benches : Shape → Map → List ℕ → List ℕ → List ℕ → Outcome → Type 0
-Benches shape map s before after (outcome.Complete x) = (x ≡ shape) × (c : Complete shape map s before after) × (Blank shape.m shape.k shape.b c.restored.stripe → ⊥)
-Benches shape map s before after (outcome.Blank x) = (x ≡ shape) × (c : Complete shape map s before after) × Blank shape.m shape.k shape.b c.restored.stripe
-Benches shape map s before after (outcome.Contradicted x) = (x ≡ shape) × (after ≡ before)
-Benches shape map s before after (outcome.Ambiguous x) = ⊥
-Benches shape map s before after (outcome.Refused f) = ⊥
+Benches shape map s before after outcome.Complete = (c : Complete shape map s before after) × (Blank shape.m shape.k shape.b c.restored.stripe → ⊥)
+Benches shape map s before after outcome.Blank = (c : Complete shape map s before after) × Blank shape.m shape.k shape.b c.restored.stripe
+Benches shape map s before after outcome.Contradicted = after ≡ before
+Benches shape map s before after outcome.Ambiguous = ⊥
 
 pub record JudgesParts (shape : Shape) (map : Map) (image s filled before after : List ℕ) (r : Outcome) : Type 0 where
   pub read : Filled shape.m shape.k shape.b map.places image s filled
-  pub told : Gives (part_rules shape map filled) (verdict_of r)
+  pub told : Gives (part_rules shape map filled) (outcome_verdict r)
   pub benches : Benches shape map filled before after r
 
 abbrev pub stripe_of : Shape → ℕ
@@ -88,26 +90,32 @@ pub record Unwritten (s after bench benched : List ℕ) : Type 0 where
   pub whole : after ≡ s
   pub spare : benched ≡ bench
 
-abbrev pub Leaves : Shape → Map → List ℕ → List ℕ → List ℕ → List ℕ → List ℕ → Outcome → Type 0
-Leaves shape map image s after bench benched (outcome.Complete x) = InParts shape map image s after bench benched (outcome.Complete x)
-Leaves shape map image s after bench benched (outcome.Blank x) = InParts shape map image s after bench benched (outcome.Blank x)
-Leaves shape map image s after bench benched (outcome.Contradicted x) = InParts shape map image s after bench benched (outcome.Contradicted x)
-Leaves shape map image s after bench benched (outcome.Ambiguous x) = (x ≡ shape) × Unwritten s after bench benched
-Leaves shape map image s after bench benched (outcome.Refused f) = ((f ≡ refusal.StripeLength) ⊎ (f ≡ refusal.BenchLength)) × Unwritten s after bench benched
+abbrev pub Leaves : Shape → Map → List ℕ → List ℕ → List ℕ → List ℕ → List ℕ → Result Outcome Refusal → Type 0
+Leaves shape map image s after bench benched (Ok outcome.Complete) = InParts shape map image s after bench benched outcome.Complete
+Leaves shape map image s after bench benched (Ok outcome.Blank) = InParts shape map image s after bench benched outcome.Blank
+Leaves shape map image s after bench benched (Ok outcome.Contradicted) = InParts shape map image s after bench benched outcome.Contradicted
+Leaves shape map image s after bench benched (Ok outcome.Ambiguous) = Unwritten s after bench benched
+Leaves shape map image s after bench benched (Err f) = ((f ≡ refusal.StripeLength) ⊎ (f ≡ refusal.BenchLength)) × Unwritten s after bench benched
 
-pub record JudgesFormed (shape : Shape) (map : Map) (image s after bench benched : List ℕ) (r : Outcome) : Type 0 where
+pub record JudgesFormed (shape : Shape) (map : Map) (image s after bench benched : List ℕ) (r : Result Outcome Refusal) : Type 0 where
   pub told : Gives (formed_rules shape map s bench (take (stripe_of shape) after)) (verdict_of r)
   pub leaves : Leaves shape map image s after bench benched r
 
 -- the image is refused without a shape
-pub record Rejected (f : Refusal) (s after bench benched : List ℕ) (r : Judgement) : Type 0 where
-  pub outcome : r.outcome ≡ outcome.Refused f
-  pub map : New r.map
+pub record Rejected (f : Refusal) (s after bench benched : List ℕ) (r : Result Judgement Refusal) : Type 0 where
+  pub outcome : r ≡ Err f
   pub unwritten : Unwritten s after bench benched
 
-pub record JudgesImage (image s after bench benched : List ℕ) (r : Judgement) : Type 0 where
-  pub contents : length image ≤ longest → (c : Contents) × ContentsOf image c
+abbrev pub outcome_of : Result Judgement Refusal → Result Outcome Refusal
+outcome_of (Ok j) = j.outcome
+outcome_of (Err f) = Err f
+
+abbrev pub Names : Shape → Map → Result Judgement Refusal → Type 0
+Names shape map r = IsOkAnd r (λ j. (j.shape ≡ shape) × (j.map ≡ map))
+
+pub record JudgesImage (image s after bench benched : List ℕ) (r : Result Judgement Refusal) : Type 0 where
+  pub contents : length image ≤ longest → (c : Result Contents Refusal) × ContentsOf image c
   pub long : longest < length image → Rejected refusal.TooLong s after bench benched r
   pub bad : length image ≤ longest → (f : Refusal) → Gives (contents_rules image) (refuse f) → Rejected f s after bench benched r
   pub formed : length image ≤ longest → (shape : Shape) (map : Map) → Formed image shape map
-      → (r.map ≡ map) × JudgesFormed shape map image s after bench benched r.outcome
+      → Names shape map r × JudgesFormed shape map image s after bench benched (outcome_of r)

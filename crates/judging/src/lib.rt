@@ -4,50 +4,30 @@
 ghost use Rattle.std.specs.Prelude.{◌≡◌, ◌↔◌, true, ◌≤◌, length};
 ghost use Rattle.parity.specs.Shape.{stripe_length, bench_length};
 ghost use Rattle.parity.specs.Presence.{absences};
-ghost use Rattle.judging.specs.Shown.{ShownZeros, Held};
 ghost use Rattle.judging.specs.Judgements.{JudgesParts, JudgesFormed, JudgesImage, Formed};
 
-use evenodd::{Map, Refusal, Restored};
-use image::Read;
+mod columns;
 
-// The three numbers of a shape.
-#[derive(Clone, Copy)]
-pub struct Shape {
-    pub m: usize,
-    pub k: usize,
-    pub b: usize,
-}
+pub use columns::Columns;
+use evenodd::{Map, Refusal, Shape};
+use image::Contents;
 
-// What came of an image: every column is there, in the stripe or in the bench, and some byte is not zero; every column is there, and every byte is zero; three
-// or more are absent; those that are present contradict each other; or the image is refused without a shape.
-#[derive(Clone, Copy)]
+// What came of an image that has a shape: every column is there, in the stripe or in the bench, and some byte is not zero; every column is there, and every
+// byte is zero; three or more are absent; or those that are present contradict each other.
+#[derive(Clone, Copy, Debug, PartialEq, Eq)]
 pub enum Outcome {
-    Complete(Shape),
-    Blank(Shape),
-    Ambiguous(Shape),
-    Contradicted(Shape),
-    Refused(Refusal),
+    Complete,
+    Blank,
+    Ambiguous,
+    Contradicted,
 }
 
-// The outcome, and the columns that the image has: none where it is refused.
-#[derive(Clone, Copy)]
+// The shape of an image, the columns that it has, and what came of it, or the refusal of what was lent for it: 2 or 3.
+#[derive(Clone, Copy, Debug, PartialEq, Eq)]
 pub struct Judgement {
-    pub outcome: Outcome,
+    pub shape: Shape,
     pub map: Map,
-}
-
-// Whether the stripe is blank now that it is restored: every byte of each column is zero, from where show finds it.
-fn is_blank<'a>(shape: Shape, map: Map, stripe: &'a [u8], bench: &'a [u8]) -> bool
-    requires { Held shape.m shape.k shape.b map stripe.now bench.now }
-    ensures { (result ≡ true) ↔ ShownZeros shape.m shape.k shape.b map.places stripe.now bench.now }
-{
-    for t in 0..shape.k + 2 {
-        let column = evenodd::show(shape.m, shape.k, shape.b, map, stripe, bench, t);
-        if !cells::is_zero(column) {
-            return false;
-        }
-    }
-    true
+    pub outcome: Result<Outcome, Refusal>,
 }
 
 // Reads a well-formed image into a stripe of its length, and restores into a bench of its length.
@@ -55,20 +35,23 @@ fn judge_parts(image: &[u8], shape: Shape, map: Map, stripe: &mut [u8], bench: &
     requires { Formed image.now shape map × (absences shape.k map.places ≤ 2) × (length stripe.old ≡ stripe_length shape.m shape.k shape.b) × (length bench.old ≡ bench_length shape.m shape.b) }
     ensures { JudgesParts shape map image.now stripe.old stripe.new bench.old bench.new result }
 {
-    image::read(image, stripe);
-    match evenodd::restore(shape.m, shape.k, shape.b, map, stripe, bench) {
-        Restored::Columns {
-            count: _,
-            first: _,
-            second: _,
-        } => {
-            if is_blank(shape, map, stripe, bench) {
-                Outcome::Blank(shape)
+    // such an image is not refused
+    image::read(image, stripe).unwrap();
+    match evenodd::restore(shape, map, stripe, bench) {
+        Ok(_) => {
+            let columns = Columns {
+                shape,
+                map,
+                stripe,
+                bench,
+            };
+            if columns.is_blank() {
+                Outcome::Blank
             } else {
-                Outcome::Complete(shape)
+                Outcome::Complete
             }
         }
-        Restored::Refused(_) => Outcome::Contradicted(shape),
+        Err(_) => Outcome::Contradicted,
     }
 }
 
@@ -79,56 +62,46 @@ fn judge_formed(
     map: Map,
     stripe: &mut [u8],
     bench: &mut [u8],
-) -> Outcome
+) -> Result<Outcome, Refusal>
     requires { Formed image.now shape map }
     ensures { JudgesFormed shape map image.now stripe.old stripe.new bench.old bench.new result }
 {
     let columns = shape.k + 2;
     let absent = columns - map.present;
     if 2 < absent {
-        return Outcome::Ambiguous(shape);
+        return Ok(Outcome::Ambiguous);
     }
     let column = (shape.m - 1) * shape.b;
     let size = columns * column;
     let double = 2 * column;
     if stripe.len() < size {
-        return Outcome::Refused(Refusal::StripeLength);
+        return Err(Refusal::StripeLength);
     }
     if bench.len() < double {
-        return Outcome::Refused(Refusal::BenchLength);
+        return Err(Refusal::BenchLength);
     }
-    judge_parts(
+    Ok(judge_parts(
         image,
         shape,
         map,
         &mut stripe[0..size],
         &mut bench[0..double],
-    )
+    ))
 }
 
 // Reads, restores and judges one image. An image of more than 16,384 bytes is refused whatever it holds. Where three or more columns are absent
 // the contents tell it, and no byte that was lent is written.
-pub fn judge_image(image: &[u8], stripe: &mut [u8], bench: &mut [u8]) -> Judgement
+pub fn judge_image(image: &[u8], stripe: &mut [u8], bench: &mut [u8]) -> Result<Judgement, Refusal>
     ensures { JudgesImage image.now stripe.old stripe.new bench.old bench.new result }
 {
     if 16384 < image.len() {
-        let map = Map::new();
-        return Judgement {
-            outcome: Outcome::Refused(Refusal::TooLong),
-            map,
-        };
+        return Err(Refusal::TooLong);
     }
-    let found = image::contents(image);
-    let map = found.map;
-    let answer = found.answer;
-    match answer {
-        Read::Shape { m, k, b } => {
-            let outcome = judge_formed(image, Shape { m, k, b }, map, stripe, bench);
-            Judgement { outcome, map }
-        }
-        Read::Refused(f) => Judgement {
-            outcome: Outcome::Refused(f),
-            map,
-        },
-    }
+    let Contents { shape, map } = image::contents(image)?;
+    let outcome = judge_formed(image, shape, map, stripe, bench);
+    Ok(Judgement {
+        shape,
+        map,
+        outcome,
+    })
 }

@@ -2,7 +2,7 @@
 // stripe is that of the numbers' C1.
 use crate::calls::{mark_line, restore_line, say_kept, show_line};
 use crate::words::{Page, say_four, say_number, say_word};
-use evenodd::Map;
+use evenodd::{Map, Shape};
 
 // The name of a case.
 fn say_case(out: &mut Page, at: usize, name: &[u8], map: Map) -> usize {
@@ -24,12 +24,12 @@ fn call_lines(out: &mut Page, at: usize, name: &[u8], map: Map) -> usize {
     let c1 = [1u8, 2, 4, 8, 16, 32, 21, 42, 57, 30];
     let bench = [161u8, 162, 163, 164];
     let a = say_case(out, at, name, map);
-    let b = restore_line(out, a, [3, 3, 1], map, &c1);
+    let b = restore_line(out, a, Shape { m: 3, k: 3, b: 1 }, map, &c1);
     let c = say_case(out, b, name, map);
-    let d = show_line(out, c, [3, 3, 1], map, &bench, 0);
+    let d = show_line(out, c, Shape { m: 3, k: 3, b: 1 }, map, &bench, 0);
     let e = say_case(out, d, name, map);
     let f = say_word(out, e, b" part");
-    let part = evenodd::show(3, 3, 1, map, &c1, &bench, 0);
+    let part = evenodd::show(Shape { m: 3, k: 3, b: 1 }, map, &c1, &bench, 0);
     let g = say_number(out, f, part.len());
     say_word(out, g, b"\n")
 }

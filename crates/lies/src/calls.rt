@@ -1,16 +1,12 @@
 // The calls that take a map, and its marks: each ends a line whose start says the case. Of a mark the start says the place too.
 use crate::words::{Page, say_bench, say_four, say_map, say_number, say_word};
-use evenodd::{Map, Marked, Place, Restored};
+use evenodd::{Gaps, Map, Place, Refusal, Shape};
 
 // The answer, how many columns were restored, and which.
-fn say_restored(out: &mut Page, at: usize, answer: Restored) -> usize {
+fn say_restored(out: &mut Page, at: usize, answer: Result<Gaps, Refusal>) -> usize {
     match answer {
-        Restored::Columns {
-            count,
-            first,
-            second,
-        } => say_four(out, at, [0, count, first, second]),
-        Restored::Refused(f) => say_four(out, at, [f.number() as usize, 0, 129, 129]),
+        Ok(filled) => say_four(out, at, [0, filled.count, filled.first, filled.second]),
+        Err(f) => say_four(out, at, [f.number() as usize, 0, 129, 129]),
     }
 }
 
@@ -18,12 +14,12 @@ fn say_restored(out: &mut Page, at: usize, answer: Restored) -> usize {
 pub(crate) fn restore_line(
     out: &mut Page,
     at: usize,
-    shape: [usize; 3],
+    shape: Shape,
     map: Map,
     stripe: &[u8],
 ) -> usize {
     let mut bench = [161u8, 162, 163, 164];
-    let answer = evenodd::restore(shape[0], shape[1], shape[2], map, stripe, &mut bench);
+    let answer = evenodd::restore(shape, map, stripe, &mut bench);
     let first = say_word(out, at, b" restore");
     let second = say_restored(out, first, answer);
     let third = say_bench(out, second, bench);
@@ -31,11 +27,11 @@ pub(crate) fn restore_line(
 }
 
 // The answer, whether the column is in the bench, where it starts and how long it is.
-fn say_column(out: &mut Page, at: usize, answer: Place) -> usize {
+fn say_column(out: &mut Page, at: usize, answer: Result<Place, Refusal>) -> usize {
     match answer {
-        Place::InStripe { start, length } => say_four(out, at, [0, 0, start, length]),
-        Place::InBench { start, length } => say_four(out, at, [0, 1, start, length]),
-        Place::Refused(f) => say_four(out, at, [f.number() as usize, 0, 0, 0]),
+        Ok(Place::InStripe { start, length }) => say_four(out, at, [0, 0, start, length]),
+        Ok(Place::InBench { start, length }) => say_four(out, at, [0, 1, start, length]),
+        Err(f) => say_four(out, at, [f.number() as usize, 0, 0, 0]),
     }
 }
 
@@ -43,24 +39,22 @@ fn say_column(out: &mut Page, at: usize, answer: Place) -> usize {
 pub(crate) fn show_line(
     out: &mut Page,
     at: usize,
-    shape: [usize; 3],
+    shape: Shape,
     map: Map,
     bench: &[u8],
     column: usize,
 ) -> usize {
     let c1 = [1u8, 2, 4, 8, 16, 32, 21, 42, 57, 30];
-    let answer = evenodd::place_of(shape[0], shape[1], shape[2], map, &c1, bench, column);
+    let answer = evenodd::place_of(shape, map, &c1, bench, column);
     let first = say_word(out, at, b" show");
     let second = say_column(out, first, answer);
     say_word(out, second, b"\n")
 }
 
 // The number of what a mark said.
-fn say_marked(out: &mut Page, at: usize, judged: Marked) -> usize {
-    match judged {
-        Marked::Done => say_number(out, at, 0),
-        Marked::Refused(f) => say_number(out, at, f.number() as usize),
-    }
+fn say_marked(out: &mut Page, at: usize, judged: Result<(), Refusal>) -> usize {
+    let number = judged.map_or_else(Refusal::number, |_| 0);
+    say_number(out, at, number as usize)
 }
 
 // What a map keeps: its two numbers and its places; and the end of the line.

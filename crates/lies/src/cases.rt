@@ -2,7 +2,7 @@
 use crate::asking::map_lines;
 use crate::calls::{restore_line, show_line};
 use crate::words::{Page, say_word};
-use evenodd::Map;
+use evenodd::{Map, Shape};
 
 // Places 0 to 4: the columns of C1.
 fn five() -> [bool; 129] {
@@ -21,11 +21,11 @@ fn four_maps(
     at: usize,
     name: &[u8],
     places: [bool; 129],
-    pairs: [usize; 8],
+    pairs: [(usize, usize); 4],
 ) -> usize {
     let mut next = at;
-    for i in 0..4 {
-        let map = Map::of_parts(places, pairs[2 * i], pairs[2 * i + 1]);
+    for (present, highest) in pairs {
+        let map = Map::of_parts(places, present, highest);
         next = map_lines(out, next, name, map);
     }
     next
@@ -35,15 +35,21 @@ fn four_maps(
 pub(crate) fn five_present(out: &mut Page, at: usize) -> usize {
     let places = five();
     let most = 18446744073709551615;
-    let a = four_maps(out, at, b"five", places, [5, 4, 4, 4, 6, 4, 4, 5]);
-    let b = four_maps(out, a, b"five", places, [5, 3, 5, 5, 5, 129, 0, 0]);
-    let c = four_maps(out, b, b"five", places, [261, 4, 5, 260, 5, 0, 0, 129]);
+    let a = four_maps(out, at, b"five", places, [(5, 4), (4, 4), (6, 4), (4, 5)]);
+    let b = four_maps(out, a, b"five", places, [(5, 3), (5, 5), (5, 129), (0, 0)]);
+    let c = four_maps(
+        out,
+        b,
+        b"five",
+        places,
+        [(261, 4), (5, 260), (5, 0), (0, 129)],
+    );
     four_maps(
         out,
         c,
         b"five",
         places,
-        [most, 4, 5, most, most, most, 4, 3],
+        [(most, 4), (5, most), (most, most), (4, 3)],
     )
 }
 
@@ -55,14 +61,14 @@ pub(crate) fn none_present(out: &mut Page, at: usize) -> usize {
         at,
         b"none",
         [false; 129],
-        [0, 129, 0, 0, 0, 128, 1, 129],
+        [(0, 129), (0, 0), (0, 128), (1, 129)],
     );
     four_maps(
         out,
         a,
         b"none",
         [false; 129],
-        [0, 130, 256, 129, 0, most, most, most],
+        [(0, 130), (256, 129), (0, most), (most, most)],
     )
 }
 
@@ -70,13 +76,25 @@ pub(crate) fn none_present(out: &mut Page, at: usize) -> usize {
 pub(crate) fn columns_off(out: &mut Page, at: usize) -> usize {
     let mut stray = five();
     stray[5] = true;
-    let a = four_maps(out, at, b"stray", stray, [6, 5, 6, 4, 5, 5, 5, 4]);
+    let a = four_maps(out, at, b"stray", stray, [(6, 5), (6, 4), (5, 5), (5, 4)]);
     let mut absent = five();
     absent[0] = false;
     absent[1] = false;
-    let b = four_maps(out, a, b"two-absent", absent, [3, 4, 2, 4, 5, 4, 3, 2]);
+    let b = four_maps(
+        out,
+        a,
+        b"two-absent",
+        absent,
+        [(3, 4), (2, 4), (5, 4), (3, 2)],
+    );
     absent[2] = false;
-    four_maps(out, b, b"three-absent", absent, [2, 4, 3, 4, 5, 4, 2, 129])
+    four_maps(
+        out,
+        b,
+        b"three-absent",
+        absent,
+        [(2, 4), (3, 4), (5, 4), (2, 129)],
+    )
 }
 
 // Every place is present, and the last alone.
@@ -88,9 +106,15 @@ pub(crate) fn last_place(out: &mut Page, at: usize) -> usize {
         at,
         b"all",
         [true; 129],
-        [129, 128, 129, 129, 128, 128, 130, 128],
+        [(129, 128), (129, 129), (128, 128), (130, 128)],
     );
-    four_maps(out, a, b"last", last, [1, 128, 1, 127, 1, 129, 2, 128])
+    four_maps(
+        out,
+        a,
+        b"last",
+        last,
+        [(1, 128), (1, 127), (1, 129), (2, 128)],
+    )
 }
 
 // A map that lies beside a wrong number of the shape, and beside a stripe of another length: restore.
@@ -98,13 +122,13 @@ pub(crate) fn restore_faults(out: &mut Page, at: usize) -> usize {
     let c1 = [1u8, 2, 4, 8, 16, 32, 21, 42, 57, 30];
     let map = Map::of_parts(five(), 4, 4);
     let a = say_word(out, at, b"m+lie");
-    let b = restore_line(out, a, [9, 3, 1], map, &c1);
+    let b = restore_line(out, a, Shape { m: 9, k: 3, b: 1 }, map, &c1);
     let c = say_word(out, b, b"k+lie");
-    let d = restore_line(out, c, [3, 4, 1], map, &c1);
+    let d = restore_line(out, c, Shape { m: 3, k: 4, b: 1 }, map, &c1);
     let e = say_word(out, d, b"b+lie");
-    let f = restore_line(out, e, [3, 3, 0], map, &c1);
+    let f = restore_line(out, e, Shape { m: 3, k: 3, b: 0 }, map, &c1);
     let g = say_word(out, f, b"length+lie");
-    restore_line(out, g, [3, 3, 1], map, &c1[0..9])
+    restore_line(out, g, Shape { m: 3, k: 3, b: 1 }, map, &c1[0..9])
 }
 
 // Beside a wrong m, a bench of another length, and a column and a place from k + 2 on: show.
@@ -115,11 +139,11 @@ pub(crate) fn show_faults(out: &mut Page, at: usize) -> usize {
     six[5] = true;
     let stray = Map::of_parts(six, 5, 5);
     let a = say_word(out, at, b"m+lie");
-    let b = show_line(out, a, [9, 3, 1], map, &bench, 0);
+    let b = show_line(out, a, Shape { m: 9, k: 3, b: 1 }, map, &bench, 0);
     let c = say_word(out, b, b"bench+lie");
-    let d = show_line(out, c, [3, 3, 1], map, &bench[0..1], 0);
+    let d = show_line(out, c, Shape { m: 3, k: 3, b: 1 }, map, &bench[0..1], 0);
     let e = say_word(out, d, b"column+lie");
-    let f = show_line(out, e, [3, 3, 1], map, &bench, 9);
+    let f = show_line(out, e, Shape { m: 3, k: 3, b: 1 }, map, &bench, 9);
     let g = say_word(out, f, b"column+lie+stray");
-    show_line(out, g, [3, 3, 1], stray, &bench, 9)
+    show_line(out, g, Shape { m: 3, k: 3, b: 1 }, stray, &bench, 9)
 }

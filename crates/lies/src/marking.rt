@@ -19,17 +19,32 @@ fn place_line(out: &mut Page, at: usize, map: Map, place: usize, present: bool) 
     mark_line(out, second, map, place, present)
 }
 
+// Four places are marked present, or absent, one after another. The end of the text, and the map then.
+fn mark_four(
+    out: &mut Page,
+    at: usize,
+    map: Map,
+    places: [usize; 4],
+    present: bool,
+) -> (usize, Map) {
+    let mut next = at;
+    let mut after = map;
+    for &place in &places {
+        next = place_line(out, next, after, place, present);
+        after = marked(after, place, present);
+    }
+    (next, after)
+}
+
 // Places are marked, some of them twice, the lowest, the highest and those that no map has: four present, and then the same four absent.
 pub(crate) fn one_by_one(out: &mut Page, at: usize) -> usize {
-    let most = 18446744073709551615;
-    let places = [3, 1, 1, 3, 0, 128, 127, 0, 5, 129, most, 128];
     let mut map = Map::new();
     let mut next = at;
-    for i in 0..24 {
-        let place = places[i / 8 * 4 + i % 4];
-        let present = i % 8 < 4;
-        next = place_line(out, next, map, place, present);
-        map = marked(map, place, present);
+    for &places in &[[3, 1, 1, 3], [0, 128, 127, 0], [5, 129, usize::MAX, 128]] {
+        let (middle, marked) = mark_four(out, next, map, places, true);
+        let (end, cleared) = mark_four(out, middle, marked, places, false);
+        next = end;
+        map = cleared;
     }
     next
 }

@@ -6,7 +6,7 @@ use mathlib.Core.Path.{◌≡◌, sym, ap, ap₂, ◌∙◌}
 use Prim.Native.Nat.{ℕ, ◌+◌, ◌-◌, ◌≤◌, ◌<◌}
 use native.Mathlib.Omega.{arith}
 use Rattle.parity.specs.Xor.{◌⊕◌}
-use Rattle.parity.specs.Equations.{Lane, S, amount_d}
+use Rattle.parity.specs.Equations.{Lane, amount_d}
 use Rattle.parity.proofs.Xor.{zero_⊕, xor}
 use Rattle.parity.proofs.Sum.{sum_none}
 use Rattle.parity.proofs.Candidate.{row_amount, row_amount_lem, row_amount_last}

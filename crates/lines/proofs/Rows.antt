@@ -6,15 +6,17 @@
 --   grown_more                one row more that was added to
 --   each_more                 one row more that the cell at `from`, which is none of them, was added to
 --   grown_none, grown_both    nothing added, and one thing added after another
+--   grown_behind              something added to the end of a buffer, which was lent by itself
 --   lined_grown               cells that were set, and then added to
 --   grown_same                the same added, by another name
 --   plus_none, plus_both      a byte that nothing was added to, and one that something was added to time after time
 use mathlib.Core.Path.{◌≡◌, refl, sym, ap, ◌∙◌, subst}
 use mathlib.Core.Logic.{◌⊎◌, inl, inr}
-use mathlib.Core.List.{List}
-use Prim.Native.Nat.{ℕ, ◌+◌, ◌*◌, ◌≤◌, ◌<◌}
+use mathlib.Core.List.{List, ◌++◌}
+use Prim.Native.Nat.{ℕ, ◌+◌, ◌-◌, ◌*◌, ◌≤◌, ◌<◌}
 use native.Mathlib.Omega.{arith}
-use lib.ListN.{get_or}
+use lib.ListN.{length, take, drop, get_or, get_or-append, length-append, length-drop}
+use lib.Seq.{get_or-take, get_or-drop, get_or-append-add, length-take-le}
 use Rattle.parity.specs.Xor.{◌⊕◌}
 use Rattle.parity.proofs.Xor.{⊕_assoc, ⊕_zero}
 use Rattle.cells.specs.Runs.{Put}
@@ -86,6 +88,25 @@ module _ (n b at : ℕ) where
 
   pub grown_same : (w v : List ℕ) (f g : ℕ → ℕ → ℕ) → Grown n b at w v f → ((r l : ℕ) → r < n → l < b → f r l ≡ g r l) → Grown n b at w v g
   grown_same w v f g p so = lined_same p (λ r l h k. ap (λ (x : ℕ). get_or w (at + (r * b + l)) 0 ⊕ x) (so r l h k))
+
+  -- what was added to the end of a buffer, from `at` on, which was lent by itself
+  pub grown_behind : (w v : List ℕ) (f : ℕ → ℕ → ℕ) → at ≤ length w → Grown n b 0 (drop at w) v f → Grown n b at w (take at w ++ v) f
+  grown_behind w v f room p = record {
+    size = simp (length-append, length-drop, front, p.size) (omega arith);
+    inside = λ r l h k.
+        let e : 0 + (r * b + l) ≡ r * b + l = omega arith in
+        behind (r * b + l) ∙ ap (λ (x : ℕ). get_or v x 0) (sym e) ∙ p.inside r l h k ∙ ap (λ (x : ℕ). x ⊕ f r l) (get_or-drop at w (0 + (r * b + l)) 0 ∙ ap (λ (x : ℕ). get_or w (at + x) 0) e);
+    before = λ x k. get_or-append (take at w) v 0 x (rw front k) ∙ get_or-take at w x 0 k;
+    after = λ x k.
+        let e : x ≡ at + (x - at) = omega arith in
+        ap (λ (y : ℕ). get_or (take at w ++ v) y 0) e ∙ behind (x - at) ∙ p.after (x - at) (omega arith) ∙ get_or-drop at w (x - at) 0 ∙ ap (λ (y : ℕ). get_or w y 0) (sym e);
+  }
+    where
+      front : length (take at w) ≡ at
+      front = length-take-le at w room
+
+      behind : (j : ℕ) → get_or (take at w ++ v) (at + j) 0 ≡ get_or v j 0
+      behind j = ap (λ (x : ℕ). get_or (take at w ++ v) (x + j) 0) (sym front) ∙ get_or-append-add (take at w) v j 0
 
   pub lined_grown : {w u v : List ℕ} {f : ℕ → ℕ → ℕ} (g : ℕ → ℕ → ℕ) → Lined n b at w u f → Grown n b at u v g → Lined n b at w v (λ r l. f r l ⊕ g r l)
   lined_grown g p q = record {

@@ -2,22 +2,24 @@
 -- from row m - turn on. Row turn - 1 gets the imaginary row m - 1, that is nothing.
 --   turned_runs, turned_run   two such runs add the turned column, and one does where it is turned by at most one row
 --   first_run, second_run     where a run that begins in the column ends with it
---   turned_within             two runs within one buffer, where the column that is added ends before the cells that it is added to
+--   turned_behind             where the column that is added ends before the cells that it is added to, and both stand in one buffer
 --   turned_line               the row that a cell gets, as the line that goes through it has it
 --   last_cell                 where the last cell of a column stands
 use mathlib.Core.Path.{◌≡◌, sym, ap, ◌∙◌}
-use mathlib.Core.List.{List}
+use mathlib.Core.List.{List, ◌++◌}
 use Prim.Native.Nat.{ℕ, ◌+◌, ◌-◌, ◌*◌, ◌%◌, ◌≤◌, ◌<◌}
 use native.Mathlib.Nat.{mul-le-mul_right, mod-add-mod, add-mod_right}
 use native.Mathlib.Omega.{arith}
-use lib.ListN.{get_or}
+use lib.ListN.{length, take, drop, get_or}
+use lib.Seq.{get_or-take}
+use Rattle.lines.proofs.Rows.{Grown, grown_same, grown_behind}
 use Rattle.parity.specs.Xor.{◌⊕◌}
 use Rattle.parity.specs.Equations.{back}
 use Rattle.parity.specs.Stripe.{byte, lane}
 use Rattle.parity.proofs.Xor.{⊕_zero}
 use Rattle.cells.specs.Runs.{Put}
 use Rattle.cells.proofs.Parts.{parts_end, by_order}
-use Rattle.cells.proofs.Puts.{put_none, put_count, put_same}
+use Rattle.cells.proofs.Puts.{put_none, put_count}
 use Rattle.lines.specs.Lines.{real, Sized}
 use Rattle.lines.specs.Rows.{Lined}
 use Rattle.lines.proofs.Lines.{up_around, up_straight, real_in, real_out, column_is}
@@ -107,14 +109,21 @@ module _ {m b c : ℕ} (z : Sized m b c) (turn : ℕ) where
       let y : 0 ≡ (turn - 1) * b = (let n : 0 ≡ 0 * b = omega arith in n ∙ ap (λ (n : ℕ). n * b) (sym x)) in
       turned_runs z at turn t h w u u s p (put_count (put_none u at _) y)
 
-  pub turned_within : turn < m → (at t : ℕ) (w u v : List ℕ) → t * c + c ≤ at
-      → Put w u (at + turn * b) ((m - 1 - turn) * b) (λ l. get_or w (at + turn * b + l) 0 ⊕ get_or w (t * c + l) 0)
-      → Put u v at ((turn - 1) * b) (λ l. get_or u (at + l) 0 ⊕ get_or u (t * c + (m - turn) * b + l) 0)
-      → Lined (m - 1) b at w v (λ r l. get_or w (at + (r * b + l)) 0 ⊕ real m (lane m b w l) (back m r turn) t)
-  turned_within h at t w u v past p q = turned_runs z at turn t h w u v w p (put_same q (λ l k.
-      ap (λ (x : ℕ). get_or u (at + l) 0 ⊕ x) (p.before (t * c + (m - turn) * b + l) (by_order (t * c + (m - turn) * b + l < at + turn * b) turn 1
-      (λ low. absurd (let e : turn - 1 ≡ 0 = omega arith in omega (arith, ap (λ (x : ℕ). x * b) e)))
-      (λ some. omega (arith, second_run some (omega (arith, h))))))))
+  -- a row of a column is the same in what stands before `at`, where the column ends
+  same_before : (at t : ℕ) (w : List ℕ) → t * c + c ≤ at → (r l : ℕ) → l < b → real m (lane m b (take at w) l) r t ≡ real m (lane m b w l) r t
+  unfolding byte
+  same_before at t w past r l h = by_order (real m (lane m b (take at w) l) r t ≡ real m (lane m b w l) r t) r (m - 1)
+      (λ low.
+      let e : t * c + (r * b + l) < at = omega (arith, column_is m b c z, parts_end b low) in
+      real_in m (lane m b (take at w) l) r t low
+      ∙ rw (← z.column) (get_or-take at w (t * c + (r * b + l)) 0 e)
+      ∙ sym (real_in m (lane m b w l) r t low))
+      (λ high. real_out m (lane m b (take at w) l) r t high ∙ sym (real_out m (lane m b w l) r t high))
+
+  pub turned_behind : (at t : ℕ) (w u v x : List ℕ) → at ≤ length w → t * c + c ≤ at → x ≡ take at w → u ≡ drop at w
+      → Grown (m - 1) b 0 u v (λ r l. real m (lane m b x l) (back m r turn) t)
+      → Grown (m - 1) b at w (x ++ v) (λ r l. real m (lane m b w l) (back m r turn) t)
+  turned_behind at t w u v x room past e d p = rw e (grown_behind (m - 1) b at w v _ room (grown_same (m - 1) b 0 (drop at w) v _ _ (rw (e, d) at p) (λ r l h k. same_before at t w past (back m r turn) l k)))
 
   pub last_cell : c ≡ (m - 2) * b + b
   last_cell = let e : m - 2 + 1 ≡ m - 1 = omega (arith, z.big) in omega (arith, column_is m b c z, ap (λ (v : ℕ). v * b) e)

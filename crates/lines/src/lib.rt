@@ -1,6 +1,7 @@
 // Lines of cells in a stripe, and where their cells stand. A row goes straight across the columns (slant 0). A diagonal (slant 1) begins in the row of
 // its number; its row goes down by one at each column, and jumps from 0 to m - 1, the imaginary row, which is zero. A line ends in a parity column: a row with
-// H's cell in that row, a diagonal with D's cell in the row of its number. Row 0 stands at the top, so a row that goes down by one is the row above.
+// H's cell in that row, a diagonal with D's cell in the row of its number. Row 0 stands at the top, so a row that goes down by one is the row above. The
+// slant is a number and no enum: it is what the row goes down by at each column, and what is added to k where a line ends.
 #![tactic(auto)]
 
 ghost use Rattle.std.specs.Prelude.{◌≡◌, ◌⊎◌, ◌+◌, ◌*◌, ◌-◌, ◌≤◌, ◌<◌, length, get_or};
@@ -12,8 +13,9 @@ ghost use Rattle.lines.specs.Lines.{ahead, real, Sized};
 ghost use Rattle.lines.specs.Places.{without, window, total, Within, Listed, Follows, LineListed, RoomForLine};
 ghost use Rattle.lines.specs.Rows.{Lined};
 
-// The numbers of a shape, and the bytes of a column.
-#[derive(Clone, Copy)]
+// The numbers of a shape, and the bytes of a column. A stripe is handed on as its bytes and this, and not as one struct of both, which was tried: a struct with
+// a reference has two moments in a contract, so that `FitsBut g.m g.k g.b u s.now` reads `FitsBut s.entry.grid.m s.entry.grid.k s.entry.grid.b u s.entry.bytes.now`.
+#[derive(Debug, PartialEq, Eq, Clone, Copy)]
 pub struct Grid {
     pub m: usize,
     pub k: usize,
@@ -22,7 +24,7 @@ pub struct Grid {
 }
 
 // Some columns of a stripe: those from `from` up to `to`, but u and v. A number that no column of the stripe has leaves none out.
-#[derive(Clone, Copy)]
+#[derive(Debug, PartialEq, Eq, Clone, Copy)]
 pub struct Columns {
     pub from: usize,
     pub to: usize,
@@ -49,8 +51,7 @@ pub fn part_of(columns: Columns, from: usize, to: usize) -> Columns
     Columns {
         from,
         to,
-        u: columns.u,
-        v: columns.v,
+        ..columns
     }
 }
 
@@ -85,28 +86,6 @@ pub fn row_below(m: usize, r: usize) -> usize
         return r + 1;
     }
     0
-}
-
-// Where a group of at most eight columns that begins at t ends: so few streams are read at once.
-pub fn group_end(t: usize, end: usize) -> usize
-    requires { (t < end) × (end ≤ 256) }
-    ensures { (t < result) × (result ≤ end) × (result ≤ t + 8) }
-{
-    if t + 8 < end {
-        return t + 8;
-    }
-    end
-}
-
-// The smaller of two numbers: a band has as many lines as have room, or as are left.
-pub fn fewer(x: usize, y: usize) -> usize
-    requires { (0 < x) × (0 < y) }
-    ensures { (0 < result) × (result ≤ x) × (result ≤ y) × (y ≤ x → result ≡ y) }
-{
-    if x < y {
-        return x;
-    }
-    y
 }
 
 // Puts the place of the cell in row r of column t after the first n places of `at`, unless it is imaginary. How many there are then.
@@ -214,8 +193,8 @@ pub fn add_cells(acc: &mut [u8], s: &[u8], at: &[usize], j: usize)
     requires { Within at.now (length at.now) (j + length acc.old) (length s.now) }
     ensures { Added acc.old acc.new (λ l. total at.now (length at.now) s.now (j + l)) }
 {
-    for x in 0..at.len() {
-        let from = at[x] + j;
+    for &place in at {
+        let from = place + j;
         cells::xor_into(acc, &s[from..from + acc.len()]);
     }
 }
@@ -237,22 +216,17 @@ pub fn add_turned(w: &mut [u8], s: &[u8], g: Grid, t: usize, turn: usize)
     }
 }
 
-// The m - 1 cells of w from `at` on get column t of w itself, which ends before them, added in this way.
+// The m - 1 cells of w from `at` on get column t of w itself, which ends before them, added so.
 pub fn add_turned_within(w: &mut [u8], at: usize, g: Grid, t: usize, turn: usize)
     requires { (at + g.column ≤ length w.old) × (t * g.column + g.column ≤ at) × (turn < g.m) × Sized g.m g.b g.column }
     ensures { Lined (g.m - 1) g.b at w.old w.new (λ r l. get_or w.old (at + (r * g.b + l)) 0 ⊕ real g.m (lane g.m g.b w.old l) (back g.m r turn) t) }
 {
-    let m = g.m;
-    let b = g.b;
-    let c = g.column;
-    let from = t * c;
-    cells::add_within(w, at + turn * b, from, (m - 1 - turn) * b);
-    if 1 < turn {
-        cells::add_within(w, at, from + (m - turn) * b, (turn - 1) * b);
-    }
+    let (front, back) = w.split_at_mut(at);
+    add_turned(back, front, g, t, turn);
 }
 
-// Each of the n cells of w from `at` on, of b bytes, gets the cell at `from`, which is none of them, added.
+// Each of the n cells of w from `at` on, of b bytes, gets the cell at `from`, which is none of them, added. By number: the cell may stand
+// before them or after them in the same buffer.
 pub fn add_to_each(w: &mut [u8], at: usize, n: usize, b: usize, from: usize)
     requires { (at + n * b ≤ length w.old) × (from + b ≤ length w.old) × ((from + b ≤ at) ⊎ (at + n * b ≤ from)) }
     ensures { Lined n b at w.old w.new (λ r l. get_or w.old (at + (r * b + l)) 0 ⊕ get_or w.old (from + l) 0) }

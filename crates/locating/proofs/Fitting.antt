@@ -1,10 +1,12 @@
 -- Which column can be the wrong one of a lane, told from the amounts h and d by which its rows and diagonals break.
---   fit_data, fit_h, fit_d   a data column, H and D
+--   fit_data               a data column
 --   fit_none               no column
+--   first_turned           the first data column that can, if one can
 --   fit_holds, holds_fit   column u can exactly when its candidate obeys the equations
 --   judged                 so what the amounts of one lane that breaks say of it is said of the whole stripe
 use mathlib.Core.Path.{◌≡◌, sym, ap, ap₂, ◌∙◌}
 use mathlib.Core.List.{List}
+use Rattle.std.specs.Prelude.{Option, Some, None, MatchOption}
 use Prim.Native.Nat.{ℕ, ◌+◌, ◌-◌, ◌%◌, ◌≤◌, ◌<◌}
 use native.Mathlib.Decide.{ℕ_discrete, dec_lt}
 use native.Mathlib.Omega.{arith}
@@ -19,18 +21,10 @@ use Rattle.parity.proofs.Suspects.{hold_h, hold_d, amounts_hold, candidate_H_h, 
 use Rattle.parity.proofs.Theorems.{prime_served}
 use Rattle.lines.proofs.Lines.{back_lt}
 use Rattle.locating.specs.Locating.{Suspects, TurnedAmounts, Fit, Blames}
-use Rattle.locating.specs.declared.Suspect.{Suspect}
-use Rattle.locating.specs.declared.Suspect.TheVariants.{Nothing, Column, Nobody}
 
 module _ (m k : ℕ) (h d : ℕ → ℕ) where
   pub fit_data : (u : ℕ) → u < k → TurnedAmounts m h d u → Fit m k h d u
   fit_data u l so = record { datum = λ _. so; rows = λ e. absurd (omega arith); diagonals = λ e. absurd (omega arith) }
-
-  pub fit_h : ((i : ℕ) → i < m - 1 → d i ≡ 0) → Fit m k h d k
-  fit_h so = record { datum = λ l. absurd (omega arith); rows = λ _. so; diagonals = λ e. absurd (omega arith) }
-
-  pub fit_d : ((i : ℕ) → i < m - 1 → h i ≡ 0) → Fit m k h d (k + 1)
-  fit_d so = record { datum = λ l. absurd (omega arith); rows = λ e. absurd (omega arith); diagonals = λ _. so }
 
   pub fit_none : ((x : ℕ) → x < k → TurnedAmounts m h d x → ⊥) → (((i : ℕ) → i < m - 1 → d i ≡ 0) → ⊥) → (((i : ℕ) → i < m - 1 → h i ≡ 0) → ⊥)
       → (x : ℕ) → x < k + 2 → Fit m k h d x → ⊥
@@ -39,9 +33,12 @@ module _ (m k : ℕ) (h d : ℕ → ℕ) where
     | no l ↦ elim (ℕ_discrete x k) [ yes e ↦ rows (f.rows e) | no ne ↦ diagonals (f.diagonals (omega arith)) ]
   ]
 
--- where row m - 1 does not break, all rows do not break if the others do not
-pub last_too : (m : ℕ) (h : ℕ → ℕ) → h (m - 1) ≡ 0 → ((i : ℕ) → i < m - 1 → h i ≡ 0) → (i : ℕ) → i < m → h i ≡ 0
-last_too m h last so i l = elim (dec_lt i (m - 1)) [ yes c ↦ so i c | no c ↦ let e : i ≡ m - 1 = omega arith in ap h e ∙ last ]
+  -- the first data column by which they are turned, if one is
+  pub first_turned : (((i : ℕ) → i < m - 1 → d i ≡ 0) → ⊥) → (((i : ℕ) → i < m - 1 → h i ≡ 0) → ⊥) → (r : Option ℕ)
+      → MatchOption r ((x : ℕ) → 0 ≤ x → x < k → TurnedAmounts m h d x → ⊥) (λ u. (0 ≤ u) × (u < k) × TurnedAmounts m h d u × ((x : ℕ) → 0 ≤ x → x < u → TurnedAmounts m h d x → ⊥))
+      → Blames m k h d r
+  first_turned rows diagonals None none = fit_none (λ x l. none x (omega arith) l) rows diagonals
+  first_turned rows diagonals (Some u) (_, l, turned, _) = (omega arith, fit_data u l turned)
 
 module _ (m k : ℕ) (big : 1 < m) (few : k ≤ m) (a : Lane) (h d : ℕ → ℕ) (rows : (i : ℕ) → i < m → h i ≡ row_amount m k a i) (diagonals : (i : ℕ) → i < m - 1 → d i ≡ amount_d m k a i) where
   row : (i : ℕ) → i < m - 1 → h i ≡ amount_h m k a i
@@ -71,15 +68,14 @@ module _ (m k : ℕ) (big : 1 < m) (few : k ≤ m) (a : Lane) (h d : ℕ → ℕ
 
 module _ (m k b : ℕ) (few : k ≤ m) (odd : m % 2 ≡ 1) (prime : Prime m) (s : List ℕ) (l : ℕ) (hl : l < b) (breaks : Holds m k (lane m b s l) → ⊥)
     (h d : ℕ → ℕ) (rows : (i : ℕ) → i < m → h i ≡ row_amount m k (lane m b s l) i) (diagonals : (i : ℕ) → i < m - 1 → d i ≡ amount_d m k (lane m b s l) i) where
-  pub judged : (r : Suspect) → Blames m k h d r → Suspects m k b s r
-  judged Nothing e = absurd e
-  judged (Column u) (inside, f) = (
+  pub judged : (r : Option ℕ) → Blames m k h d r → Suspects m k b s r
+  judged (Some u) (inside, f) = (
     λ sound. breaks (sound l hl),
     inside,
     λ x hx fits. one_suspect m k (record { odd = odd; big = prime.big; small = few }) (prime_served m k prime few) (lane m b s l) breaks x u hx inside (fits l hl)
         (fit_holds m k prime.big few (lane m b s l) h d rows diagonals u inside f),
   )
-  judged Nobody none = (
+  judged None none = (
     λ sound. breaks (sound l hl),
     λ x hx fits. none x hx (holds_fit m k prime.big few (lane m b s l) h d rows diagonals x (fits l hl)),
   )

@@ -2,7 +2,7 @@
 --   one_row                     a row that can be summed over all data columns
 --   row_set                     a row summed in a cell is the amount that it breaks by
 --   first_put                   the first byte that is not zero, of a run that was set
---   found_there, breaks_there   a lane that was found is one, and does not obey the equations
+--   found, breaks_there         where a row breaks a lane is found, and it does not obey the equations
 use mathlib.Core.Path.{◌≡◌, refl, sym, ap, ap₂, ◌∙◌, subst}
 use mathlib.Core.List.{List}
 use Prim.Native.Nat.{ℕ, ◌+◌, ◌-◌, ◌≤◌, ◌<◌}
@@ -15,8 +15,10 @@ use Rattle.parity.specs.Stripe.{lane}
 use Rattle.parity.proofs.Xor.{zero_⊕}
 use Rattle.parity.proofs.Candidate.{row_amount_lem}
 use Rattle.parity.proofs.Suspects.{hold_h}
-use Rattle.cells.specs.Runs.{Put, First}
-use Rattle.cells.proofs.Parts.{part, part_at, by_order}
+use Rattle.std.specs.Prelude.{Option, Some, None, IsSome}
+use borrow.Author.Rules.{rules}
+use Rattle.cells.specs.Runs.{Put, FirstAt, First}
+use Rattle.cells.proofs.Parts.{part, part_at}
 use Rattle.cells.proofs.Puts.{put_same}
 use Rattle.lines.specs.declared.Columns.{Columns}
 use Rattle.lines.specs.declared.Grid.{Grid}
@@ -57,16 +59,18 @@ module _ {g : Grid} {s : List ℕ} (z : Laid g s) {columns : Columns} (q : colum
   row_set w {seed = seed} past p = put_same p (λ l h.
       ap₂ ◌⊕◌ (get_or-eq_default w 0 {n = seed + l} (omega arith)) (row_is l) ∙ zero_⊕ (amount_h g.m g.k (lane g.m g.b s l) i))
 
-pub first_put : {r n : ℕ} {x : List ℕ} (y : List ℕ) {f : ℕ → ℕ} → n ≤ length y → Put x y 0 n f → First r (length (part y 0 n)) (λ l. get_or (part y 0 n) l 0) → First r n f
-first_put {r} {n} y room p t = record {
+pub first_put : (r : Option ℕ) {n : ℕ} {x : List ℕ} (y : List ℕ) {f : ℕ → ℕ} → n ≤ length y → Put x y 0 n f → First r (length (part y 0 n)) (λ l. get_or (part y 0 n) l 0) → First r n f
+first_put None {n} y room p t = λ l h. sym (part_at y 0 n l (omega arith) ∙ p.inside l h) ∙ t l (omega (arith, part_length y n room))
+first_put (Some r) {n} y room p t = record {
   within = omega (arith, t.within, part_length y n room);
   before = λ l h. sym (part_at y 0 n l (omega (arith, t.within, part_length y n room)) ∙ p.inside l (omega (arith, t.within, part_length y n room))) ∙ t.before l h;
-  there = λ h e. t.there (omega (arith, part_length y n room)) (part_at y 0 n r (omega arith) ∙ p.inside r h ∙ e);
+  there = λ e. t.there (part_at y 0 n r (omega (arith, t.within, part_length y n room)) ∙ p.inside r (omega (arith, t.within, part_length y n room)) ∙ e);
 }
 
-module _ (g : Grid) (s : List ℕ) (i l : ℕ) (p : RowBreaks g s i) (t : First l g.b (λ l. amount_h g.m g.k (lane g.m g.b s l) i)) where
-  pub found_there : l < g.b
-  found_there = by_order (l < g.b) l g.b (λ low. low) (λ high. absurd (p.there (λ x h. t.before x (omega arith))))
+module _ (g : Grid) (s : List ℕ) (i : ℕ) (p : RowBreaks g s i) where
+  pub found : (r : Option ℕ) → First r g.b (λ l. amount_h g.m g.k (lane g.m g.b s l) i) → IsSome r
+  found None none = absurd (p.there none)
+  found (Some l) t = search rules
 
-  pub breaks_there : Holds g.m g.k (lane g.m g.b s l) → ⊥
-  breaks_there v = t.there found_there (hold_h g.m g.k (lane g.m g.b s l) v i p.inside)
+  pub breaks_there : (l : ℕ) → FirstAt g.b (λ l. amount_h g.m g.k (lane g.m g.b s l) i) l → Holds g.m g.k (lane g.m g.b s l) → ⊥
+  breaks_there l t v = t.there (hold_h g.m g.k (lane g.m g.b s l) v i p.inside)

@@ -1,7 +1,6 @@
 -- Rows and diagonals of a lane, summed column after column.
 --   summed_none            over no column they are zero
 --   summed_next            over one column more
---   stripe_most            a stripe is not long
 --   lane_room, taken       the bytes of a column of a lane are there; and read one after another they are the column
 --   turned_added           two runs add a run, turned
 --   breaks_by              over all data columns, with H, and with D and S, they are the amounts that the lane's lines break by
@@ -9,7 +8,7 @@
 use mathlib.Core.Path.{◌≡◌, sym, ap, ap₂, ◌∙◌, subst}
 use mathlib.Core.List.{List}
 use Prim.Native.Nat.{ℕ, ◌+◌, ◌*◌, ◌-◌, ◌≤◌, ◌<◌}
-use native.Mathlib.Nat.{le_refl, one-mul, mul-le-mul}
+use native.Mathlib.Nat.{le_refl, one-mul}
 use native.Mathlib.Omega.{arith}
 use lib.ListN.{length, get_or, set}
 use Rattle.parity.specs.Xor.{◌⊕◌}
@@ -23,17 +22,12 @@ use Rattle.cells.proofs.Parts.{parts_end, by_order}
 use Rattle.cells.proofs.Puts.{put_one, put_start, put_same, put_count}
 use Rattle.lines.specs.declared.Grid.{Grid}
 use Rattle.lines.specs.Lines.{real, line, Sized, Laid}
-use Rattle.lines.proofs.Lines.{back_lt, up_around, up_straight, real_in, real_out, column_most, cell_room}
+use Rattle.lines.proofs.Lines.{back_lt, up_around, up_straight, real_in, real_out, cell_room}
 use Rattle.lines.proofs.Cells.{at_row}
 use Rattle.lines.proofs.Equations.{row_at}
 use Rattle.lines.proofs.Valid.{line_more}
 use Rattle.lines.proofs.Amounts.{row_amount_line, diagonal_lines}
 use Rattle.locating.specs.Locating.{Summed, BreaksBy}
-
-pub stripe_most : {g : Grid} {s : List ℕ} → Laid g s → length s ≤ 66576384
-stripe_most {g} z =
-    let h : (g.k + 2) * g.column ≤ 129 * 516096 = mul-le-mul {n₂ = 129} {m₂ = 516096} (omega (arith, z.few, z.sized.few)) (column_most g.m g.b g.column z.sized) in
-    omega (arith, z.whole)
 
 pub lane_room : {g : Grid} {s : List ℕ} → Laid g s → (t l i : ℕ) → t < g.k + 2 → l < g.b → i < g.m - 1 → t * g.column + l + i * g.b < length s
 lane_room {g} z t l i ht hl hi =

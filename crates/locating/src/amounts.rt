@@ -17,8 +17,8 @@ fn take_lane(x: &mut [u8], s: &[u8], g: Grid, t: usize, l: usize)
     let b = g.b;
     let last = g.m - 1;
     let from = t * g.column + l;
-    for i in 0..last {
-        x[i] = s[from + i * b];
+    for (i, byte) in x[..last].iter_mut().enumerate() {
+        *byte = s[from + i * b];
     }
     x[last] = 0;
 }
@@ -57,8 +57,8 @@ fn add_lanes(x: &mut [u8], h: &mut [u8], d: &mut [u8], s: &[u8], g: Grid, l: usi
 fn add_to_each(d: &mut [u8], v: u8)
     ensures { Added d.old d.new (λ i. v) }
 {
-    for i in 0..d.len() {
-        d[i] = d[i] ^ v;
+    for byte in d.iter_mut() {
+        *byte ^= v;
     }
 }
 

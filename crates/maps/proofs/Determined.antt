@@ -1,6 +1,6 @@
 -- Each promise determines its result: the proofs of the statements in specs/Determined.
 -- A list of rules gives one verdict, and where it passes the promise says the rest.
-use mathlib.Core.Path.{◌≡◌, refl, sym, ap, ◌∙◌}
+use mathlib.Core.Path.{◌≡◌, refl, sym, ◌∙◌}
 use mathlib.Core.Logic.{◌↔◌, ◌⊎◌, inl, inr, by_cases}
 use mathlib.Core.Bool.{Bool, true, false, cond}
 use mathlib.Core.List.{List}
@@ -12,10 +12,9 @@ use lib.Seq.{ext_get_or}
 use Rattle.refusals.specs.declared.Refusal.{Refusal}
 use Rattle.refusals.specs.declared.Refusal.TheVariants.{NoSuchColumn, LyingMap}
 use Rattle.refusals.specs.Refusals.{pass, refuse, Gives}
-use Rattle.refusals.proofs.Rules.{passes_not, refuse_one, gives_one, gives_first, gives_next}
+use Rattle.refusals.proofs.Rules.{both_answers, gives_first, gives_next}
 use Rattle.maps.specs.declared.Gaps.{Gaps}
 use Rattle.maps.specs.declared.Map.{Map}
-use Rattle.maps.specs.declared.Marked.TheVariants as marked
 use Rattle.maps.specs.Absent.{Counts}
 use Rattle.maps.specs.Rules.{place_rules}
 use Rattle.maps.specs.Determined.{NewOne, OfPlacesOne, OfBytesOne, AsBytesOne, TellsTruthOne, MarksOne, MarkedTwice, JudgesPlaceOne, FindsGapsOne, FindsStraysOne, TrueMapOne, ByHighest, ByCount}
@@ -85,10 +84,7 @@ marked_twice state before place once twice x y = elim (judged_place before place
 
 pub judges_place_one : JudgesPlaceOne
 unfolding JudgesPlaceOne
-judges_place_one map place marked.Done marked.Done x y = refl
-judges_place_one map place marked.Done (marked.Refused g) x y = absurd (passes_not g (gives_one (place_rules map place) _ _ x.told y.told))
-judges_place_one map place (marked.Refused f) marked.Done x y = absurd (passes_not f (gives_one (place_rules map place) _ _ y.told x.told))
-judges_place_one map place (marked.Refused f) (marked.Refused g) x y = ap marked.Refused (refuse_one f g (gives_one (place_rules map place) _ _ x.told y.told))
+judges_place_one map place r q x y = both_answers (place_rules map place) (λ r q. r ≡ q) (λ _ _. refl) (λ f. refl) r q x.told y.told
 
 pub counts_one : (n : ℕ) (map : List Bool) (r q : Gaps) → Counts n map r → Counts n map q → r ≡ q
 counts_one n map r q x y =

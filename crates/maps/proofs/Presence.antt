@@ -3,7 +3,6 @@
 --   new_absent, new_true          in a list of absent places every place is absent, and of them none is the highest
 --   same_map                      two true maps with the same places present are equal
 --   place_passed                  what is known where a place can be marked
---   place_done, place_refused     what is judged of it, as a verdict
 --   marks_passed, marks_refused   what a mark leaves, by what is judged of the place
 --   marked_already, marked_put, marked_cleared    a place that is in its state already, that comes to be present, and that comes to be absent
 use mathlib.Core.Path.{◌≡◌, refl, sym, ap, ◌∙◌}
@@ -13,7 +12,7 @@ use mathlib.Core.Logic.{by_cases}
 use Prim.Native.Nat.{ℕ, zero, suc, ◌+◌, ◌-◌, ◌<◌}
 use native.Mathlib.Decide.{ℕ_discrete}
 use native.Mathlib.Omega.{arith}
-use lib.ListN.{length, set, replicate, length-map, length-set}
+use lib.ListN.{length, set, replicate, length-set}
 use lib.Seq.{ext_get_or}
 use mir.Val.{Val}
 use denote.Laws.{Is}
@@ -22,14 +21,12 @@ use Rattle.parity.specs.Presence.{present}
 use Rattle.parity.proofs.Count.{all_fail}
 pub use Rattle.maps.proofs.Absent.{absences_below, below_most}
 use Rattle.maps.specs.declared.Map.{Map}
-use Rattle.maps.specs.declared.Marked.{Marked}
-use Rattle.maps.specs.declared.Marked.TheVariants.{Done, Refused}
 use Rattle.refusals.specs.declared.Refusal.{Refusal}
-use Rattle.maps.specs.Maps.{MarkedAs, Marks, JudgesPlace}
+use Rattle.maps.specs.Maps.{MarkedAs, Marks}
 use Rattle.refusals.specs.Refusals.{pass, refuse, Gives}
 use Rattle.maps.specs.Rules.{place_rules}
 use Rattle.maps.specs.Truth.{Highest, TrueMap}
-use Rattle.refusals.proofs.Rules.{passes_not, gives_one, passed_first}
+use Rattle.refusals.proofs.Rules.{passed_first, not_both}
 use Rattle.maps.proofs.Truth.{true_one, not_lying, put_present, counted_put, counted_cleared}
 use Rattle.maps.specs.contracts.Map.{the_row}
 
@@ -61,21 +58,12 @@ place_passed map place g =
     let (inside, _) = passed_first rest in
     (not_lying map honest, omega arith)
 
-module _ (map : Map) (place : ℕ) where
-  pub place_done : (j : Marked) → JudgesPlace map place j → j ≡ Done → Gives (place_rules map place) pass
-  place_done Done h e = h.told
-  place_done (Refused f) h e = absurd (let z : ◌≡◌ {A = ℕ} 0 1 = cc in omega arith)
-
-  pub place_refused : (j : Marked) {f : Refusal} → JudgesPlace map place j → j ≡ Refused f → Gives (place_rules map place) (refuse f)
-  place_refused Done h e = absurd (let z : ◌≡◌ {A = ℕ} 0 1 = cc in omega arith)
-  place_refused (Refused g) {f} h e = let q : g ≡ f = cc in rw q at h.told
-
 module _ (state : Bool) (before : Map) (place : ℕ) where
   pub marks_passed : (after : Map) → Gives (place_rules before place) pass → MarkedAs state before place after → Marks state before place after
-  marks_passed after g m = record { done = λ _. m; kept = λ f r. absurd (passes_not f (gives_one (place_rules before place) _ _ g r)) }
+  marks_passed after g m = record { done = λ _. m; kept = λ f r. absurd (not_both (place_rules before place) f g r) }
 
   pub marks_refused : (f : Refusal) → Gives (place_rules before place) (refuse f) → Marks state before place before
-  marks_refused f g = record { done = λ p. absurd (passes_not f (gives_one (place_rules before place) _ _ p g)); kept = λ _ _. refl }
+  marks_refused f g = record { done = λ p. absurd (not_both (place_rules before place) f p g); kept = λ _ _. refl }
 
   pub marked_already : TrueMap before → present before.places place ≡ state → MarkedAs state before place before
   marked_already h e = record {

@@ -5,11 +5,11 @@
 --   TrueMapOne     the places determine a true map
 --   ByHighest      of a true map, a place from n on is present exactly when the highest place is one: so 9 is read from the highest place
 --   ByCount        of a true map without strays, as many columns are absent as the count leaves of k + 2: so 4 is read from the count
-use Rattle.std.specs.Prelude.{◌≡◌, ◌↔◌, Bool, List, ℕ, ◌+◌, ◌≤◌}
+use Rattle.std.specs.Prelude.{◌≡◌, ◌↔◌, Bool, List, ℕ, ◌+◌, ◌≤◌, Result, ⊤}
 use Rattle.parity.specs.Presence.{absences}
 use Rattle.maps.specs.declared.Gaps.{Gaps}
 use Rattle.maps.specs.declared.Map.{Map}
-use Rattle.maps.specs.declared.Marked.{Marked}
+use Rattle.refusals.specs.declared.Refusal.{Refusal}
 use Rattle.maps.specs.Absent.{PresentFrom, Stray}
 use Rattle.maps.specs.Truth.{TrueMap, HighestFrom, absent_by_count}
 use Rattle.maps.specs.Maps.{New, OfPlaces, OfBytes, AsBytes, TellsTruth, Marks, JudgesPlace, FindsGaps, FindsStrays}
@@ -36,7 +36,7 @@ unfoldable pub MarkedTwice : Type 0
 MarkedTwice = (state : Bool) (before : Map) (place : ℕ) (once twice : Map) → Marks state before place once → Marks state once place twice → twice ≡ once
 
 unfoldable pub JudgesPlaceOne : Type 0
-JudgesPlaceOne = (map : Map) (place : ℕ) (r q : Marked) → JudgesPlace map place r → JudgesPlace map place q → r ≡ q
+JudgesPlaceOne = (map : Map) (place : ℕ) (r q : Result ⊤ Refusal) → JudgesPlace map place r → JudgesPlace map place q → r ≡ q
 
 unfoldable pub FindsGapsOne : Type 0
 FindsGapsOne = (map : Map) (n : ℕ) (r q : Gaps) → FindsGaps map n r → FindsGaps map n q → r ≡ q

@@ -7,19 +7,16 @@
 --   TellsTruth map r            whether the map's two numbers are what its places say
 --   MarkedAs state before place after   that place is in the state, and every other place as before
 --   Marks                       passed by `place_rules`: `MarkedAs`; refused, the map is as it was
---   verdict_of r                 the verdict of a mark
 --   JudgesPlace map place r     the verdict of `place_rules`
 --   FindsGaps map n r           the absent places below n, of the 129: how many, and the two lowest of them, 129 standing for none
 --   FindsStrays map n r         whether a place at or above n is present
-use Rattle.std.specs.Prelude.{◌≡◌, Bool, true, false, cond, ◌↔◌, List, ℕ, ◌≤◌, ◌<◌, eqb, length, get_or}
+use Rattle.std.specs.Prelude.{◌≡◌, Bool, true, false, cond, ◌↔◌, List, ℕ, ◌≤◌, ◌<◌, eqb, length, get_or, Result, ⊤}
 use Rattle.parity.specs.Presence.{present}
 use Rattle.maps.specs.declared.Gaps.{Gaps}
 use Rattle.maps.specs.Absent.{PresentFrom, Counts}
 use Rattle.maps.specs.declared.Map.{Map}
-use Rattle.maps.specs.declared.Marked.{Marked}
-use Rattle.maps.specs.declared.Marked.TheVariants.{Done, Refused}
 use Rattle.refusals.specs.declared.Refusal.{Refusal}
-use Rattle.refusals.specs.Refusals.{Verdict, pass, refuse, Gives}
+use Rattle.refusals.specs.Refusals.{pass, refuse, verdict_of, Gives}
 use Rattle.maps.specs.Rules.{place_rules}
 use Rattle.maps.specs.Truth.{TrueMap}
 
@@ -50,11 +47,7 @@ pub record Marks (state : Bool) (before : Map) (place : ℕ) (after : Map) : Typ
   pub done : Gives (place_rules before place) pass → MarkedAs state before place after
   pub kept : (f : Refusal) → Gives (place_rules before place) (refuse f) → after ≡ before
 
-abbrev pub verdict_of : Marked → Verdict
-verdict_of Done = pass
-verdict_of (Refused r) = refuse r
-
-pub record JudgesPlace (map : Map) (place : ℕ) (r : Marked) : Type 0 where
+pub record JudgesPlace (map : Map) (place : ℕ) (r : Result ⊤ Refusal) : Type 0 where
   pub told : Gives (place_rules map place) (verdict_of r)
 
 pub record FindsGaps (map : Map) (n : ℕ) (r : Gaps) : Type 0 where

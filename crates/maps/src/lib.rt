@@ -13,27 +13,20 @@ ghost use Rattle.maps.specs.Maps.{New, OfPlaces, OfBytes, AsBytes, TellsTruth, M
 use refusals::Refusal;
 
 // `present` is how many places are present, and `highest` the highest of them; 129 stands for none. Anybody may read and set these two numbers, so a map may
-// lie: they are then not what its places say. Every call refuses such a map.
-#[derive(Clone, Copy)]
+// lie: they are then not what its places say. Every call refuses such a map. So `highest` is a number and no Option: C is handed it, and a map may name any.
+#[derive(Clone, Copy, Debug, PartialEq, Eq)]
 pub struct Map {
     places: [bool; 129],
     pub present: usize,
     pub highest: usize,
 }
 
-// How many places are absent, and the two lowest of them; 129 stands for none.
-#[derive(Clone, Copy)]
+// How many places are absent, and the two lowest of them; 129 stands for none, as it does for C, to which these numbers are handed (`NthAbsent`).
+#[derive(Clone, Copy, Debug, PartialEq, Eq)]
 pub struct Gaps {
     pub count: usize,
     pub first: usize,
     pub second: usize,
-}
-
-// Whether a place can be marked, or why not.
-#[derive(Clone, Copy)]
-pub enum Marked {
-    Done,
-    Refused(Refusal),
 }
 
 impl Gaps {
@@ -45,25 +38,21 @@ impl Gaps {
         if there {
             return self;
         }
-        let count = self.count;
-        if count == 0 {
-            return Self {
+        match self.count {
+            0 => Self {
                 count: 1,
                 first: place,
-                second: self.second,
-            };
-        }
-        if count == 1 {
-            return Self {
+                ..self
+            },
+            1 => Self {
                 count: 2,
-                first: self.first,
                 second: place,
-            };
-        }
-        Self {
-            count: count + 1,
-            first: self.first,
-            second: self.second,
+                ..self
+            },
+            count => Self {
+                count: count + 1,
+                ..self
+            },
         }
     }
 }
@@ -78,8 +67,7 @@ fn find_gaps(places: [bool; 129], n: usize) -> Gaps
         first: 129,
         second: 129,
     };
-    for t in 0..n {
-        let there = places[t];
+    for (t, &there) in places[..n].iter().enumerate() {
         gaps = gaps.counted(t, there);
     }
     gaps
@@ -90,17 +78,10 @@ fn count_present(places: [bool; 129]) -> usize
     ensures { result ≡ count 129 (present places) }
 {
     let mut c: u8 = 0;
-    for t in 0..129 {
-        c += places[t] as u8;
+    for &there in &places {
+        c += there as u8;
     }
     c as usize
-}
-
-// The larger of two numbers.
-fn larger(x: u8, y: u8) -> u8
-    ensures { result ≡ cond (ltb x y) y x }
-{
-    if x < y { y } else { x }
 }
 
 // One more than the highest present place, and 0 where none is present. Each present place gives one more than its number, and the largest is kept, which is
@@ -109,8 +90,8 @@ fn find_top(places: [bool; 129]) -> u8
     ensures { Topped 129 places result }
 {
     let mut top: u8 = 0;
-    for t in 0..129 {
-        top = larger(top, places[t] as u8 * (t as u8 + 1));
+    for (t, &there) in places.iter().enumerate() {
+        top = top.max(there as u8 * (t as u8 + 1));
     }
     top
 }
@@ -175,23 +156,14 @@ impl Map {
     pub fn of_bytes(bytes: &[u8; 129]) -> Self
         ensures { OfBytes bytes.now result }
     {
-        let mut places = [false; 129];
-        for t in 0..129 {
-            places[t] = bytes[t] == 1;
-        }
-        Self::of_places(places)
+        Self::of_places(bytes.map(|byte| byte == 1))
     }
 
     // The places in 129 bytes: 1 for present, 0 for absent.
     pub fn bytes(self) -> [u8; 129]
         ensures { AsBytes self result }
     {
-        let places = self.places;
-        let mut bytes: [u8; 129] = [0; 129];
-        for t in 0..129 {
-            bytes[t] = places[t] as u8;
-        }
-        bytes
+        self.places.map(|there| there as u8)
     }
 
     // Whether the two numbers are what the places say.
@@ -237,13 +209,15 @@ impl Map {
         self
     }
 
+    // `mark_present` and `mark_absent` stay two: one function that takes the state would test it again to choose between `with` and `without`, and is no plainer.
+
     // The map with a place marked present. A map that lies stays as it is, and so does any map where the place is 129 or more.
     pub fn mark_present(self, place: usize) -> Self
         ensures { Marks true self place result }
     {
         match self.judge_place(place) {
-            Marked::Done => self.with(place),
-            Marked::Refused(_) => self,
+            Ok(()) => self.with(place),
+            Err(_) => self,
         }
     }
 
@@ -252,32 +226,29 @@ impl Map {
         ensures { Marks false self place result }
     {
         match self.judge_place(place) {
-            Marked::Done => self.without(place),
-            Marked::Refused(_) => self,
+            Ok(()) => self.without(place),
+            Err(_) => self,
         }
     }
 
-    // What marking that place says.
-    pub fn judge_place(self, place: usize) -> Marked
+    // Whether that place can be marked, or why not.
+    pub fn judge_place(self, place: usize) -> Result<(), Refusal>
         ensures { JudgesPlace self place result }
     {
         if !self.is_true() {
-            return Marked::Refused(Refusal::LyingMap);
+            return Err(Refusal::LyingMap);
         }
         if 129 <= place {
-            return Marked::Refused(Refusal::NoSuchColumn);
+            return Err(Refusal::NoSuchColumn);
         }
-        Marked::Done
+        Ok(())
     }
 
     // Whether a place is marked present. A place of 129 or more is not.
     pub fn is_present(self, place: usize) -> bool
         ensures { result ≡ present self.places place }
     {
-        if 129 <= place {
-            return false;
-        }
-        self.places[place]
+        place < 129 && self.places[place]
     }
 
     // The absent places below n, of the 129.

@@ -11,15 +11,18 @@ use Rattle.inputs.specs.Rules.{stripe_rules, restore_rules, show_rules, list_rul
 use Rattle.checking.specs.Locates.{locate_rules}
 use Rattle.evenodd.specs.Rewrites.{rewrite_rules}
 use Rattle.evenodd.specs.Changes.{change_rules}
-use Rattle.evenodd.specs.declared.many_cells.ChangedAll.{ChangedAll}
-use Rattle.evenodd.specs.declared.many_cells.ChangedAll.TheVariants as changedAll
+use Rattle.std.specs.Prelude.{Result, Ok, Err, ⊤}
+use Rattle.inputs.specs.declared.lists.ListRefusal.{ListRefusal}
+use Rattle.inputs.specs.declared.lists.ListRefusal.TheVariants.{Whole, Item}
 use Rattle.evenodd.specs.ChangesAll as all
 use Rattle.evenodd.specs.ChangesAll.{change_rules_of, ChangesAll}
 use Rattle.refusals.specs.Refusals.{answer_number}
-use Rattle.image.specs.Reads.{contents_rules, read_rules}
+use Rattle.image.specs.Reads.{MapOf, contents_rules, read_rules}
 use Rattle.refusals.proofs.Rules.{never_number, equal_of}
-use Rattle.maps.specs.Determined.{OfBytesOne, AsBytesOne, FindsGapsOne}
-use Rattle.maps.proofs.Determined.{of_bytes_one, as_bytes_one, finds_gaps_one}
+use Rattle.maps.specs.declared.Map.{Map}
+use Rattle.refusals.specs.declared.Refusal.{Refusal}
+use Rattle.maps.specs.Determined.{NewOne, OfBytesOne, AsBytesOne, FindsGapsOne}
+use Rattle.maps.proofs.Determined.{new_one, of_bytes_one, as_bytes_one, finds_gaps_one}
 use Rattle.checking.specs.Determined.{LocatesOne, ChecksOne}
 use Rattle.checking.proofs.Determined.{locates_one, checks_one}
 use Rattle.evenodd.specs.Determined.{PlacesOne, RestoresOne, RewritesOne, ChangesOne, ChangesAllOne, EncodesOne}
@@ -86,13 +89,20 @@ show_gives_one m k b places s bench column x y n r x' y' n' r' p q =
     let e = places_one m k b p.map s bench column p.answer q.answer p.meets (rw same q.meets) in
     (cc, cc, cc, cc)
 
--- what is found determines what is written
-written_one : (found other : Contents) (places : List ℕ) (x y z r : ℕ) (places' : List ℕ) (x' y' z' r' : ℕ) → found ≡ other
-    → ContentsWritten found places x y z r → ContentsWritten other places' x' y' z' r'
+-- an answer has one map
+map_one : (r : Result Contents Refusal) (x y : Map) → MapOf r x → MapOf r y → x ≡ y
+unfolding NewOne
+map_one (Ok r) x y p q = p ∙ sym q
+map_one (Err f) x y p q = new_one x y p q
+
+-- what is answered determines what is written
+written_one : (a c : Result Contents Refusal) (places : List ℕ) (x y z r : ℕ) (places' : List ℕ) (x' y' z' r' : ℕ) → a ≡ c
+    → ContentsWritten a places x y z r → ContentsWritten c places' x' y' z' r'
     → (places ≡ places') × (x ≡ x') × (y ≡ y') × (z ≡ z') × (r ≡ r')
 unfolding AsBytesOne
-written_one found other places x y z r places' x' y' z' r' e p q =
-    (as_bytes_one found.map places places' p.marks (rw e q.marks), cc, cc, cc, cc)
+written_one a c places x y z r places' x' y' z' r' e p q =
+    let same = map_one a p.map q.map p.own (rw e q.own) in
+    (as_bytes_one p.map places places' p.marks (rw same q.marks), cc, cc, cc, cc)
 
 pub contents_gives_one : ContentsGivesOne
 unfolding ContentsGivesOne ContentsOne
@@ -160,11 +170,11 @@ never_lying = (encoded, checked, located, rewritten, changed, all_changed, said,
     changed m k b s after column row cell r p e = never_number 17 (change_rules m k b column row cell s) _ (omega arith) (λ q. absurd (omega arith), (λ q. absurd (omega arith), (λ q. absurd (omega arith), (λ q. absurd (omega arith), (λ q. absurd (omega arith), (λ q. absurd (omega arith), (λ q. absurd (omega arith), tt))))))) p.meets.told (sym p.number ∙ e)
 
     -- the lists as a whole, or an item, by change's rules
-    never_all : (m k b : ℕ) (s after columns rows cells : List ℕ) (a : ChangedAll) → ChangesAll m k b columns rows cells s after a → answer_number (all.verdict_of a) ≢ 17
-    never_all m k b s after columns rows cells changedAll.Done p e = omega arith
-    never_all m k b s after columns rows cells (changedAll.Refused f) p e =
+    never_all : (m k b : ℕ) (s after columns rows cells : List ℕ) (a : Result ⊤ ListRefusal) → ChangesAll m k b columns rows cells s after a → answer_number (all.verdict_of a) ≢ 17
+    never_all m k b s after columns rows cells (Ok _) p e = omega arith
+    never_all m k b s after columns rows cells (Err (Whole f)) p e =
         never_number 17 (list_rules m k b (length s) (length columns) (length rows) (length cells)) _ (omega arith) (λ q. absurd (omega arith), (λ q. absurd (omega arith), (λ q. absurd (omega arith), (λ q. absurd (omega arith), (λ q. absurd (omega arith), tt))))) p.told e
-    never_all m k b s after columns rows cells (changedAll.ItemRefused i f) p e =
+    never_all m k b s after columns rows cells (Err (Item i f)) p e =
         never_number 17 (change_rules_of m k b columns rows cells s i) _ (omega arith) (λ q. absurd (omega arith), (λ q. absurd (omega arith), (λ q. absurd (omega arith), (λ q. absurd (omega arith), (λ q. absurd (omega arith), (λ q. absurd (omega arith), (λ q. absurd (omega arith), tt))))))) p.told.1.refused e
 
     all_changed : (m k b : ℕ) (s after columns rows cells : List ℕ) (x r : ℕ) → ChangesGives m k b s after columns rows cells x r → r ≢ 17

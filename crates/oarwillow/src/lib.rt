@@ -2,25 +2,27 @@
 // and writes its other results behind the pointers, on a refusal too. The two lengths are returned themselves, and are 0 for numbers outside their rules.
 #![tactic(auto)]
 
-ghost use Rattle.std.specs.Prelude.{◌≡◌, ◌+◌, ◌≤◌, ◌<◌};
+ghost use Rattle.std.specs.Prelude.{◌≡◌};
+ghost use Rattle.refusals.specs.Refusals.{verdict_of, answer_number};
 ghost use Rattle.oarwillow.specs.Calls.{EncodeGives, CheckGives, RestoreGives, LocateGives, RewriteGives, ChangeGives, ChangesGives, ShowGives, ContentsWritten, ContentsGives, ReadGives, WriteGives, WalkGives, GapsGives, StripeLengthGives, BenchLengthGives};
 
-use evenodd::{
-    Changed, ChangedAll, Checked, Encoded, Judged, Located, Map, Place, Restored, Rewritten,
-};
-use image::{Contents, Read};
+use evenodd::{Checked, Gaps, ListRefusal, Located, Map, Place, Refusal, Shape};
+use image::Contents;
 use image_walker::Found;
-use image_writer::Written;
+
+// The number of an answer: 0 where the call passes, otherwise the refusal's.
+fn number_of<T: Drop>(answer: Result<T, Refusal>) -> u8
+    ensures { result ≡ answer_number (verdict_of answer) }
+{
+    answer.map_or_else(Refusal::number, |_| 0)
+}
 
 // Writes H and D.
 #[unsafe(no_mangle)]
 pub extern "C" fn oarwillow_encode(m: usize, k: usize, b: usize, stripe: &mut [u8]) -> u8
     ensures { EncodeGives m k b stripe.old stripe.new result }
 {
-    match evenodd::encode(m, k, b, stripe) {
-        Encoded::Done => 0,
-        Encoded::Refused(r) => r.number(),
-    }
+    number_of(evenodd::encode(Shape { m, k, b }, stripe))
 }
 
 // Counts the rows whose H equation breaks and the numbers whose D equation breaks, and tells a blank stripe from an intact one.
@@ -36,23 +38,13 @@ pub extern "C" fn oarwillow_check(
 ) -> u8
     ensures { CheckGives m k b stripe.now rows.new diagonals.new found.new result }
 {
-    *rows = 0;
-    *diagonals = 0;
-    let answer = evenodd::check(m, k, b, stripe);
-    *found = answer.found();
-    match answer {
-        Checked::Intact => 0,
-        Checked::Blank => 0,
-        Checked::Broken {
-            rows: x,
-            diagonals: y,
-        } => {
-            *rows = x;
-            *diagonals = y;
-            0
-        }
-        Checked::Refused(r) => r.number(),
-    }
+    let answer = evenodd::check(Shape { m, k, b }, stripe);
+    (*rows, *diagonals) = match answer {
+        Ok(Checked::Broken { rows, diagonals }) => (rows, diagonals),
+        _ => (0, 0),
+    };
+    *found = answer.map_or(0, Checked::found);
+    number_of(answer)
 }
 
 // Restores the absent columns to the bench.
@@ -70,23 +62,17 @@ pub extern "C" fn oarwillow_restore(
 ) -> u8
     ensures { RestoreGives m k b places.now stripe.now bench.old bench.new count.new first.new second.new result }
 {
-    *count = 0;
-    *first = 129;
-    *second = 129;
     let map = Map::of_bytes(places);
-    match evenodd::restore(m, k, b, map, stripe, bench) {
-        Restored::Columns {
-            count: n,
-            first: x,
-            second: y,
-        } => {
-            *count = n;
-            *first = x;
-            *second = y;
-            0
-        }
-        Restored::Refused(r) => r.number(),
-    }
+    let answer = evenodd::restore(Shape { m, k, b }, map, stripe, bench);
+    let filled = answer.unwrap_or(Gaps {
+        count: 0,
+        first: 129,
+        second: 129,
+    });
+    *count = filled.count;
+    *first = filled.first;
+    *second = filled.second;
+    number_of(answer)
 }
 
 // Says which column is wrong.
@@ -101,15 +87,10 @@ pub extern "C" fn oarwillow_locate(
 ) -> u8
     ensures { LocateGives m k b stripe.now found.new column.new result }
 {
-    let answer = evenodd::locate(m, k, b, stripe);
-    *found = answer.found();
-    *column = answer.column();
-    match answer {
-        Located::Intact => 0,
-        Located::Blank => 0,
-        Located::Column(_) => 0,
-        Located::Refused(r) => r.number(),
-    }
+    let answer = evenodd::locate(Shape { m, k, b }, stripe);
+    *found = answer.map_or(0, Located::found);
+    *column = answer.map_or(129, Located::column);
+    number_of(answer)
 }
 
 // Rewrites the column that is named.
@@ -123,10 +104,7 @@ pub extern "C" fn oarwillow_rewrite(
 ) -> u8
     ensures { RewriteGives m k b stripe.old stripe.new column result }
 {
-    match evenodd::rewrite(m, k, b, stripe, column) {
-        Rewritten::Done => 0,
-        Rewritten::Refused(r) => r.number(),
-    }
+    number_of(evenodd::rewrite(Shape { m, k, b }, stripe, column))
 }
 
 // Changes one cell of a data column.
@@ -142,10 +120,7 @@ pub extern "C" fn oarwillow_change(
 ) -> u8
     ensures { ChangeGives m k b stripe.old stripe.new column row cell.now result }
 {
-    match evenodd::change(m, k, b, stripe, column, row, cell) {
-        Changed::Done => 0,
-        Changed::Refused(r) => r.number(),
-    }
+    number_of(evenodd::change(Shape { m, k, b }, stripe, column, row, cell))
 }
 
 // Changes up to 256 cells of data columns in list order, or none.
@@ -162,13 +137,9 @@ pub extern "C" fn oarwillow_changes(
 ) -> u8
     ensures { ChangesGives m k b stripe.old stripe.new columns.now rows.now cells.now item.new result }
 {
-    let answer = evenodd::changes(m, k, b, stripe, columns, rows, cells);
-    *item = answer.item();
-    match answer {
-        ChangedAll::Done => 0,
-        ChangedAll::Refused(r) => r.number(),
-        ChangedAll::ItemRefused(_, f) => f.number(),
-    }
+    let answer = evenodd::changes(Shape { m, k, b }, stripe, columns, rows, cells);
+    *item = answer.map_or_else(ListRefusal::item, |_| 256);
+    number_of(answer.map_err(ListRefusal::refusal))
 }
 
 // Says where a column lies.
@@ -187,58 +158,35 @@ pub extern "C" fn oarwillow_show(
 ) -> u8
     ensures { ShowGives m k b places.now stripe.now bench.now column from_bench.new start.new length.new result }
 {
-    *from_bench = 0;
-    *start = 0;
-    *length = 0;
     let map = Map::of_bytes(places);
-    match evenodd::place_of(m, k, b, map, stripe, bench, column) {
-        Place::InStripe {
-            start: x,
-            length: n,
-        } => {
-            *start = x;
-            *length = n;
-            0
-        }
-        Place::InBench {
-            start: y,
-            length: l,
-        } => {
-            *from_bench = 1;
-            *start = y;
-            *length = l;
-            0
-        }
-        Place::Refused(r) => r.number(),
-    }
+    let answer = evenodd::place_of(Shape { m, k, b }, map, stripe, bench, column);
+    (*from_bench, *start, *length) = match answer {
+        Ok(Place::InStripe { start, length }) => (0, start, length),
+        Ok(Place::InBench { start, length }) => (1, start, length),
+        Err(_) => (0, 0, 0),
+    };
+    number_of(answer)
 }
 
-// Writes what was found of a shelf image: its map in bytes and its shape, 0 0 0 where it is refused. Returns the number.
+// Writes what was found of a shelf image: its map in bytes and its shape, a new map and 0 0 0 where it is refused. Returns the number.
 fn write_contents(
-    found: Contents,
+    answer: Result<Contents, Refusal>,
     places: &mut [u8; 129],
     m: &mut usize,
     k: &mut usize,
     b: &mut usize,
 ) -> u8
-    ensures { ContentsWritten found places.new m.new k.new b.new result }
+    ensures { ContentsWritten answer places.new m.new k.new b.new result }
 {
-    let map = found.map;
-    let answer = found.answer;
-    let bytes = map.bytes();
-    *places = bytes;
-    *m = 0;
-    *k = 0;
-    *b = 0;
-    match answer {
-        Read::Shape { m: x, k: y, b: z } => {
-            *m = x;
-            *k = y;
-            *b = z;
-            0
-        }
-        Read::Refused(r) => r.number(),
-    }
+    let Contents { shape, map } = answer.unwrap_or(Contents {
+        shape: Shape { m: 0, k: 0, b: 0 },
+        map: Map::new(),
+    });
+    *places = map.bytes();
+    *m = shape.m;
+    *k = shape.k;
+    *b = shape.b;
+    number_of(answer)
 }
 
 // Says what a shelf image has, its shape and its map, without a stripe.
@@ -283,15 +231,10 @@ pub extern "C" fn oarwillow_write(
 ) -> u8
     ensures { WriteGives m k b places.now stripe.now image.old image.new length.new result }
 {
-    *length = 0;
     let map = Map::of_bytes(places);
-    match image_writer::write(m, k, b, map, stripe, image) {
-        Written::Length(written) => {
-            *length = written;
-            0
-        }
-        Written::Refused(r) => r.number(),
-    }
+    let answer = image_writer::write(Shape { m, k, b }, map, stripe, image);
+    *length = answer.unwrap_or(0);
+    number_of(answer)
 }
 
 // Says where the first present column at or after a place lies in a shelf image, and moves the place on.
@@ -305,36 +248,21 @@ pub extern "C" fn oarwillow_walk(
 ) -> u8
     ensures { WalkGives image.now place.old place.new column.new start.new length.new result }
 {
-    *column = 129;
-    *start = 0;
-    *length = 0;
     let step = image_walker::step_at(image, *place);
-    let found = step.found;
+    let found = step.found.unwrap_or(None).unwrap_or(Found {
+        column: 129,
+        start: 0,
+        length: 0,
+    });
     *place = step.next;
-    match found {
-        Found::Column {
-            column: t,
-            start: from,
-            length: size,
-        } => {
-            *column = t;
-            *start = from;
-            *length = size;
-            0
-        }
-        Found::End => 0,
-        Found::Refused(r) => r.number(),
-    }
+    *column = found.column;
+    *start = found.start;
+    *length = found.length;
+    number_of(step.found)
 }
 
-// How many columns there are with k data columns: k + 2, and no more than the map's 129 places.
-fn columns_of(k: usize) -> usize
-    ensures { (k < 127 → result ≡ k + 2) × (127 ≤ k → result ≡ 129) }
-{
-    if k < 127 { k + 2 } else { 129 }
-}
-
-// Says what a map knows: how many places are present and the highest of them, how many of the columns are absent and the two lowest of these.
+// Says what a map knows: how many places are present and the highest of them, how many of the columns are absent and the two lowest of these. There
+// are k + 2 columns, and no more than the map's 129 places.
 #[unsafe(no_mangle)]
 pub extern "C" fn oarwillow_gaps(
     k: usize,
@@ -348,7 +276,7 @@ pub extern "C" fn oarwillow_gaps(
     ensures { GapsGives k places.now present.new highest.new absent.new first.new second.new result }
 {
     let map = Map::of_bytes(places);
-    let gaps = map.gaps(columns_of(k));
+    let gaps = map.gaps(k.min(127) + 2);
     *present = map.present;
     *highest = map.highest;
     *absent = gaps.count;
@@ -357,14 +285,14 @@ pub extern "C" fn oarwillow_gaps(
     0
 }
 
-// How many bytes a stripe of that shape has; 0 where the three numbers are no shape.
+// How many bytes a stripe of that shape has; 0 where the three numbers are no shape. A match: of a closure the product would ask for a clause of its own.
 #[unsafe(no_mangle)]
 pub extern "C" fn oarwillow_stripe_length(m: usize, k: usize, b: usize) -> usize
     ensures { StripeLengthGives m k b result }
 {
-    match evenodd::judge(m, k, b) {
-        Judged::Good { column } => (k + 2) * column,
-        Judged::Refused(_) => 0,
+    match evenodd::judge(Shape { m, k, b }) {
+        Ok(column) => (k + 2) * column,
+        Err(_) => 0,
     }
 }
 
@@ -374,8 +302,8 @@ pub extern "C" fn oarwillow_stripe_length(m: usize, k: usize, b: usize) -> usize
 pub extern "C" fn oarwillow_bench_length(m: usize, b: usize) -> usize
     ensures { BenchLengthGives m b result }
 {
-    match evenodd::judge(m, 1, b) {
-        Judged::Good { column } => 2 * column,
-        Judged::Refused(_) => 0,
+    match evenodd::judge(Shape { m, k: 1, b }) {
+        Ok(column) => 2 * column,
+        Err(_) => 0,
     }
 }

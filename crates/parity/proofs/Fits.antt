@@ -10,7 +10,6 @@ use Prim.Native.Nat.{ℕ, suc, ◌+◌, ◌-◌, ◌≤◌, ◌<◌}
 use native.Mathlib.Decide.{dec_lt}
 use native.Mathlib.Omega.{arith}
 use lib.Dec.{ltb, eqb, leb}
-use Rattle.parity.specs.Xor.{◌⊕◌}
 use Rattle.parity.specs.Equations.{Lane, cell, back, H, S, D, amount_h, amount_d}
 use Rattle.parity.specs.Stripe.{byte, lane, Stripe, Valid}
 use Rattle.parity.specs.Candidate.{candidate, FitsBut}

@@ -1,6 +1,6 @@
 -- The rows modulo m, gone through in steps of δ: an order of all rows where δ has an inverse. Assumes nothing.
 use mathlib.Core.Path.{◌≡◌, sym, ap, ◌∙◌}
-use Prim.Native.Nat.{ℕ, ◌+◌, ◌-◌, ◌*◌, ◌/◌, ◌%◌, ◌<◌}
+use Prim.Native.Nat.{ℕ, ◌+◌, ◌*◌, ◌/◌, ◌%◌, ◌<◌}
 use native.Mathlib.Nat.{mod-add-div', add-mul-mod_self_right, mul_comm, mod-add-mod, add-mod-mod, add-mod, mul-one, zero-mul, zero-mod, add-zero, mod-eq_of_lt, mod-lt}
 use native.Mathlib.Omega.{arith}
 use Rattle.parity.proofs.Sum.{Order}

@@ -9,15 +9,9 @@ const ACCEPTED: [usize; 30] = [
     101, 103, 107, 109, 113, 127,
 ];
 
-// Whether m is one of the thirty accepted values. The table is taken out of the loop, where it would be made anew for each look.
+// Whether m is one of the thirty accepted values.
 pub fn is_accepted(m: usize) -> bool
     ensures { result ≡ member m accepted }
 {
-    let accepted = ACCEPTED;
-    for i in 0..30 {
-        if accepted[i] == m {
-            return true;
-        }
-    }
-    false
+    ACCEPTED.contains(&m)
 }

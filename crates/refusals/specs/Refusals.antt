@@ -1,13 +1,14 @@
 -- Why a call is refused, by number, and which refusal is given where several apply.
 --   number_of r       the number of a refusal, as the table of refusal numbers has it
 --   Verdict          a call passes, or is refused
+--   verdict_of r      the verdict of a call's result: what it hands out is no part of it
 --   answer_number v   the number of a verdict: 0 for a pass, otherwise the refusal's
 --   Rule             a condition, and the refusal that it brings
 --   Gives rules v    v is the refusal of the first rule whose condition holds, and a pass where none does
 -- Of the items of a list, where item i is asked `rules i`:
 --   EachPasses rules n            none of the first n is refused
 --   FirstRefused rules n item f   of the first n, `item` is the first that is refused, with f
-use Rattle.std.specs.Prelude.{◌≡◌, ◌⊎◌, List, [], ◌∷◌, ℕ, ◌<◌}
+use Rattle.std.specs.Prelude.{◌≡◌, ◌⊎◌, List, [], ◌∷◌, ℕ, ◌<◌, Result, Ok, Err}
 use Rattle.refusals.specs.declared.Refusal.{Refusal}
 use Rattle.refusals.specs.declared.Refusal.TheVariants.{WrongM, StripeLength, BenchLength, Ambiguous, Contradicted, Unmendable, NoSuchColumn, Malformed, StrayColumn, TooLong, NoSuchRow, WrongK, WrongB, CellLength, WrongLists, ShortBuffer, LyingMap}
 
@@ -33,6 +34,10 @@ number_of LyingMap = 17
 pub data Verdict : Type 0 where
   pass : Verdict
   refuse : Refusal → Verdict
+
+abbrev pub verdict_of : {T : Type 0} → Result T Refusal → Verdict
+verdict_of (Ok x) = pass
+verdict_of (Err f) = refuse f
 
 abbrev pub answer_number : Verdict → ℕ
 answer_number pass = 0

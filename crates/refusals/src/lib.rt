@@ -5,7 +5,7 @@ ghost use Rattle.std.specs.Prelude.{◌≡◌};
 ghost use Rattle.refusals.specs.Refusals.{number_of};
 
 // Why a call is refused. Every call of the shelf refuses with one of these, and each has one number.
-#[derive(Clone, Copy)]
+#[derive(Clone, Copy, Debug, PartialEq, Eq)]
 pub enum Refusal {
     WrongM,
     StripeLength,
@@ -27,7 +27,7 @@ pub enum Refusal {
 }
 
 impl Refusal {
-    // The refusal's number: 1 to 17, and no other.
+    // The refusal's number: 1 to 17, and no other. By a match, so that each number stands beside its name.
     pub fn number(self) -> u8
         ensures { result ≡ number_of self }
     {

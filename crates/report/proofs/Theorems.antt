@@ -19,4 +19,4 @@ reports_one image s bench before after after' benched benched' out out' r r' u v
 pub answer_alone : AnswerAlone
 unfolding AnswerAlone
 answer_alone image s after bench benched before out r f h short told =
-    h.text ∙ ap (λ o. text_of o h.judgement.map after benched) (h.judged.bad short f told).outcome
+    h.text ∙ ap (λ j. text_of j after benched) (h.judged.bad short f told).outcome

@@ -4,8 +4,8 @@ ghost use Rattle.text.specs.Text.{Wrote};
 ghost use Rattle.report.specs.Reports.{refused_text, complete_text, Tellable, Reports};
 
 use crate::writing::{put_answer, put_columns, put_done, put_shape};
-use evenodd::{Map, Refusal};
-use judging::{Outcome, Shape, judge_image};
+use evenodd::{Map, Refusal, Shape};
+use judging::{Columns, Judgement, Outcome, judge_image};
 
 // Writes the shape and the refusal's number only.
 fn put_refused(out: &mut [u8], shape: Shape, refusal: Refusal) -> usize
@@ -17,12 +17,12 @@ fn put_refused(out: &mut [u8], shape: Shape, refusal: Refusal) -> usize
 }
 
 // Writes the shape, the columns and the answer 0, of a blank stripe with that word.
-fn put_complete<'a>(
+fn put_complete(
     out: &mut [u8],
     shape: Shape,
     map: Map,
-    stripe: &'a [u8],
-    bench: &'a [u8],
+    stripe: &[u8],
+    bench: &[u8],
     blank: bool,
 ) -> usize
     requires { Tellable shape map stripe.now bench.now (length out.old) }
@@ -31,8 +31,14 @@ fn put_complete<'a>(
     let column = (shape.m - 1) * shape.b;
     let size = (shape.k + 2) * column;
     let double = 2 * column;
+    let columns = Columns {
+        shape,
+        map,
+        stripe: &stripe[0..size],
+        bench: &bench[0..double],
+    };
     let next = put_shape(out, 0, shape);
-    let last = put_columns(out, next, shape, map, &stripe[0..size], &bench[0..double]);
+    let last = put_columns(out, next, columns);
     put_done(out, last, blank)
 }
 
@@ -42,14 +48,20 @@ pub fn report(image: &[u8], stripe: &mut [u8], bench: &mut [u8], out: &mut [u8])
     requires { 102400 ≤ length out.old }
     ensures { Reports image.now stripe.old stripe.new bench.old bench.new out.old out.new result }
 {
-    let judged = judge_image(image, stripe, bench);
-    let map = judged.map;
-    let outcome = judged.outcome;
-    match outcome {
-        Outcome::Complete(shape) => put_complete(out, shape, map, stripe, bench, false),
-        Outcome::Blank(shape) => put_complete(out, shape, map, stripe, bench, true),
-        Outcome::Ambiguous(shape) => put_refused(out, shape, Refusal::Ambiguous),
-        Outcome::Contradicted(shape) => put_refused(out, shape, Refusal::Contradicted),
-        Outcome::Refused(f) => put_answer(out, 0, f.number()),
+    match judge_image(image, stripe, bench) {
+        Ok(
+            Judgement {
+                shape,
+                map,
+                outcome,
+            },
+        ) => match outcome {
+            Ok(Outcome::Complete) => put_complete(out, shape, map, stripe, bench, false),
+            Ok(Outcome::Blank) => put_complete(out, shape, map, stripe, bench, true),
+            Ok(Outcome::Ambiguous) => put_refused(out, shape, Refusal::Ambiguous),
+            Ok(Outcome::Contradicted) => put_refused(out, shape, Refusal::Contradicted),
+            Err(f) => put_answer(out, 0, f.number()),
+        },
+        Err(f) => put_answer(out, 0, f.number()),
     }
 }

@@ -1,13 +1,14 @@
-// The lines of a report, each written at a place of a lent buffer; the answer is the place after it.
+// The lines of a report, each written at a place of a lent buffer; the answer is the place after it. What a flag says is one word of a line, so it is handed to one
+// `if`. In the loop t is the column's number, which is written and which show is asked for.
 ghost use Rattle.std.specs.Prelude.{◌+◌, ◌*◌, ◌≤◌, ◌<◌, length};
 ghost use Rattle.parity.specs.Shape.{column_length};
 ghost use Rattle.parity.specs.Presence.{present};
 ghost use Rattle.text.specs.Text.{Wrote};
-ghost use Rattle.judging.specs.Shown.{shown, Held};
+ghost use Rattle.judging.specs.Shown.{shown};
 ghost use Rattle.report.specs.Lines.{field, shape_line, answer_line, done_line, state_word, column_line, column_lines};
 
-use evenodd::Map;
-use judging::Shape;
+use evenodd::Shape;
+use judging::Columns;
 
 // Writes a number, and the byte that follows it.
 fn put_field(out: &mut [u8], at: usize, n: usize, mark: u8) -> usize
@@ -73,38 +74,22 @@ fn put_line(out: &mut [u8], at: usize, t: usize, there: bool, column: &[u8]) -> 
     text::put_byte(out, third, 10)
 }
 
-// Writes the line of column t, from where show finds it.
-fn put_column<'a>(
-    out: &mut [u8],
-    at: usize,
-    shape: Shape,
-    map: Map,
-    stripe: &'a [u8],
-    bench: &'a [u8],
-    t: usize,
-) -> usize
-    requires { Held shape.m shape.k shape.b map stripe.now bench.now × (t < shape.k + 2) × (at + (15 + 2 * column_length shape.m shape.b) ≤ length out.old) }
-    ensures { Wrote out.old out.new at result (column_line t (present map.places t) (shown shape.m shape.b map.places stripe.now bench.now t)) × (result ≤ at + (15 + 2 * column_length shape.m shape.b)) }
+// Writes the line of column t.
+fn put_column(out: &mut [u8], at: usize, columns: Columns, t: usize) -> usize
+    requires { (t < columns.shape.k + 2) × (at + (15 + 2 * column_length columns.shape.m columns.shape.b) ≤ length out.old) }
+    ensures { Wrote out.old out.new at result (column_line t (present columns.entry.map.places t) (shown columns.entry.shape.m columns.entry.shape.b columns.entry.map.places columns.entry.stripe.now columns.entry.bench.now t)) × (result ≤ at + (15 + 2 * column_length columns.entry.shape.m columns.entry.shape.b)) }
 {
-    let column = evenodd::show(shape.m, shape.k, shape.b, map, stripe, bench, t);
-    put_line(out, at, t, map.is_present(t), column)
+    put_line(out, at, t, columns.map.is_present(t), columns.column(t))
 }
 
 // Writes the line of each column.
-pub(crate) fn put_columns<'a>(
-    out: &mut [u8],
-    at: usize,
-    shape: Shape,
-    map: Map,
-    stripe: &'a [u8],
-    bench: &'a [u8],
-) -> usize
-    requires { Held shape.m shape.k shape.b map stripe.now bench.now × (at + (shape.k + 2) * (15 + 2 * column_length shape.m shape.b) ≤ length out.old) }
-    ensures { Wrote out.old out.new at result (column_lines (shape.k + 2) map.places (shown shape.m shape.b map.places stripe.now bench.now)) × (result ≤ at + (shape.k + 2) * (15 + 2 * column_length shape.m shape.b)) }
+pub(crate) fn put_columns(out: &mut [u8], at: usize, columns: Columns) -> usize
+    requires { at + (columns.shape.k + 2) * (15 + 2 * column_length columns.shape.m columns.shape.b) ≤ length out.old }
+    ensures { Wrote out.old out.new at result (column_lines (columns.entry.shape.k + 2) columns.entry.map.places (shown columns.entry.shape.m columns.entry.shape.b columns.entry.map.places columns.entry.stripe.now columns.entry.bench.now)) × (result ≤ at + (columns.entry.shape.k + 2) * (15 + 2 * column_length columns.entry.shape.m columns.entry.shape.b)) }
 {
     let mut next = at;
-    for t in 0..shape.k + 2 {
-        next = put_column(out, next, shape, map, stripe, bench, t);
+    for t in 0..columns.shape.k + 2 {
+        next = put_column(out, next, columns, t);
     }
     next
 }

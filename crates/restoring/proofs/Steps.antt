@@ -1,5 +1,5 @@
 -- What each function leaves, step by step.
---   all_columns, one_line, whole_lines   what the sums ask for where they go over all data columns but u and v
+--   all_columns, whole_lines   what the sums ask for where they go over all data columns but u and v
 --   band_last, band_cells         where the last cell of a band stands, and that the sums have room there
 --   half_band, half_cells         a half is a band of all rows
 --   row_left_lem, diagonal_left_lem       what is left of a line, as it is summed
@@ -9,8 +9,7 @@
 --   by_rows, by_diagonals         some rows of one column, restored
 --   begin_row_lem, both_summed        both halves summed over some columns
 --   cleared, uncleared            the last cell of the first half was cleared, and that of the second was not
---   put_over                      a run that was set, and then set again
---   InBench                       both halves after the columns below t: in_bench_begin, in_bench_next, in_bench_end
+--   InBench                       both halves after the columns below t: in_bench_next, in_bench_end
 --   last_put, last_bench, last_is   the last cell of the second half was set, and what stands there
 --   parted_from, restored_anew    what a half begins with, and where a bench begins, by another name
 --   data_h, data_d, h_d           two columns of these kinds
@@ -37,13 +36,13 @@ use Rattle.cells.proofs.Parts.{part, parts_end}
 use Rattle.lines.specs.declared.Columns.{Columns}
 use Rattle.lines.specs.declared.Grid.{Grid}
 use Rattle.lines.specs.Lines.{real, span, ended, Laid}
-use Rattle.lines.specs.Rows.{Lined, Room}
+use Rattle.lines.specs.Rows.{Lined}
 use Rattle.lines.proofs.Lines.{up_straight, real_in, real_out, real_same, column_is}
 use Rattle.lines.proofs.Places.{window_first}
 use Rattle.lines.proofs.Rows.{lined_same}
 use Rattle.lines.proofs.Turned.{last_cell}
 use Rattle.lines.proofs.Whole.{whole_line}
-use Rattle.sums.specs.Sums.{begun, lane_of, window_of, OneLine, RoomForCells, AllColumns}
+use Rattle.sums.specs.Sums.{begun, lane_of, window_of, RoomForCells, AllColumns}
 use Rattle.sums.proofs.Sweeps.{begun_first, begun_next, onward, over}
 use Rattle.walk.specs.Walk.{Column, Mixed, Parted, Walked}
 use Rattle.restoring.specs.Restoring.{Bench, Band, SameButTwo, RowsRestored, TwoRestored}
@@ -54,18 +53,11 @@ use Rattle.restoring.proofs.Lanes.{row_of_one, row_of_both, diagonal_of_both, di
 pub past_end : (w : List ℕ) {p : ℕ} (l : ℕ) → length w ≤ p → get_or w (p + l) 0 ≡ 0
 past_end w {p} l h = get_or-eq_default w 0 {n = p + l} (omega arith)
 
-pub put_over : {w u v : List ℕ} {at n : ℕ} {f h : ℕ → ℕ} → Put w u at n f → Put u v at n h → Put w v at n h
-put_over p q = record { size = q.size ∙ p.size; inside = q.inside; before = λ x h. q.before x h ∙ p.before x h; after = λ x h. q.after x h ∙ p.after x h }
-
 module _ (g : Grid) (u v : ℕ) where
   abbrev pub all_columns : Columns
   all_columns = record { from = 0; to = g.k; u = u; v = v }
 
   module _ (s : List ℕ) where
-    pub one_line : {n e i seed to : ℕ} {columns : Columns} → columns ≡ all_columns → Laid g s → e ≤ 1 → i < g.m → Room n g.b seed to → OneLine g s n e i columns seed to
-    one_line {n} {e} {i} {seed} {to} is laid slant inside room = subst (λ (x : Columns). OneLine g s n e i x seed to) (sym is)
-        (record { laid = laid; slant = slant; inside = inside; first = refl; some = laid.some; most = omega arith; room = room })
-
     pub whole_lines : {e d : ℕ} {columns : Columns} → columns ≡ all_columns → Laid g s → e ≤ 1 → d < g.m → AllColumns g s e d columns
     whole_lines {e} {d} is laid slant shift = subst (λ (x : Columns). AllColumns g s e d x) (sym is)
         (record { laid = laid; slant = slant; shift = shift; first = refl; some = laid.some; most = omega arith })
@@ -201,9 +193,6 @@ module _ (g : Grid) (s : List ℕ) (d u v : ℕ) (w : List ℕ) where
         (λ r l. lane g.m g.b w l (g.m - 2) 0 ⊕ window_of g s 0 r (over g s 0 u v 0 t) l)
         (λ r l. lane g.m g.b w l (g.m - 2) 1 ⊕ window_of g s 1 ((r + d) % g.m) (over g s 1 u v 0 t) l)
     pub size : length o ≡ length w
-
-  pub in_bench_begin : InBench w 0
-  in_bench_begin = record { none = λ h. refl; some = λ h. absurd (h refl); size = refl }
 
   pub in_bench_next : (o q : List ℕ) (t n : ℕ) → t < n → length w ≡ 2 * column_length g.m g.b → InBench o t → BothSummed g s d (record { from = t; to = n; u = u; v = v }) o q → InBench q n
   in_bench_next o q t n h whole p f = record {

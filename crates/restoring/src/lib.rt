@@ -1,7 +1,7 @@
 // Absent columns of a stripe, one or two, restored to the halves of the bench, a buffer of two columns; or some rows of one, to room for them. An absent
-// column is never read: every sum leaves out columns u and v, of which 129, which no stripe has, stands for none; H and D are summed whole only where both
-// are there. A row with H's cell is zero, and a diagonal with D's cell is S: what is left of them is what the absent columns have there. Row m - 1 is
-// imaginary, and zero. While cells are summed, the last of them holds what each begins with: nothing for rows, S for diagonals.
+// column is never read: every sum leaves out columns u and v, of which 129, which no stripe has, stands for none, as in `without`; H and D are summed whole
+// only where both are there. A row with H's cell is zero, and a diagonal with D's cell is S: what is left of them is what the absent columns have there. Row
+// m - 1 is imaginary, and zero. While cells are summed, the last of them holds what each begins with: nothing for rows, S for diagonals.
 #![tactic(auto)]
 
 ghost use Rattle.std.specs.Prelude.{◌≡◌, ◌+◌, ◌-◌, ◌*◌, ◌%◌, ◌≤◌, ◌<◌, length, get_or};
@@ -45,7 +45,8 @@ fn put_diagonals(
     sums::sum_cells(w, last, n, s, g, 1, shift, lines::all_but(g, u, v));
 }
 
-// Every cell r of w, of n cells, becomes what is left of row r + first modulo m without columns u and v.
+// Every cell r of w, of n cells, becomes what is left of row r + first modulo m without columns u and v. Rows begin with nothing, and diagonals with one that
+// is summed first: one function for both would take the first step as a choice, and be no plainer.
 fn put_rows(w: &mut [u8], n: usize, s: &[u8], g: Grid, first: usize, u: usize, v: usize)
     requires { (first < g.m) × Band g s.now (length w.old) n }
     ensures { Lined n g.b 0 w.old w.new (λ r l. row_left g u v s.now (ahead g.m r first) l) }
@@ -103,17 +104,14 @@ fn put_both(bench: &mut [u8], s: &[u8], g: Grid, shift: usize, u: usize, v: usiz
     let k = g.k;
     let last = (g.m - 2) * g.b;
     cells::zero(&mut bench[last..c]);
-    let mut t: usize = 0;
-    while t < k {
-        let e = lines::group_end(t, k);
+    for t in (0..k).step_by(8) {
         let columns = Columns {
             from: t,
-            to: e,
+            to: k.min(t + 8),
             u,
             v,
         };
         sum_two(bench, s, g, shift, columns);
-        t = e;
     }
 }
 
@@ -145,14 +143,10 @@ fn total_cells(w: &mut [u8], s: &[u8], b: usize, n: usize, to: usize)
     requires { CellsTotalled (length w.old) (length s.now) b n to }
     ensures { Put w.old w.new to b (λ l. span 2 (lane 2 b s.now l) 0 0 0 n) }
 {
-    let e = lines::group_end(0, n);
     let none = w.len();
-    add_total(w, none, s, b, 0, e, to);
-    let mut x = e;
-    while x < n {
-        let y = lines::group_end(x, n);
-        add_total(w, to, s, b, x, y, to);
-        x = y;
+    for x in (0..n).step_by(8) {
+        let seed = if x == 0 { none } else { to };
+        add_total(w, seed, s, b, x, n.min(x + 8), to);
     }
 }
 

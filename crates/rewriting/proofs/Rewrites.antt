@@ -2,10 +2,10 @@
 --   laid_length      another stripe as long
 --   band_end         a band of rows lies within the stripe
 --   band_copied      a band that was restored elsewhere, and copied
---   whole_band       where a column has room, the first band of it is all of it
---   bands_none, bands_next   no band rewritten, and one more
+--   whole_band       where a column has room, all of its rows have it
+--   bands_next       one band more
 --   bands_all        a column of which all rows were rewritten
-use mathlib.Core.Path.{◌≡◌, refl, sym, ap, ◌∙◌}
+use mathlib.Core.Path.{◌≡◌, sym, ap, ◌∙◌}
 use mathlib.Core.List.{List}
 use Prim.Native.Nat.{ℕ, ◌+◌, ◌*◌, ◌-◌, ◌/◌, ◌≤◌, ◌<◌}
 use native.Mathlib.Nat.{mul-le-mul_right}
@@ -59,19 +59,13 @@ module _ {g : Grid} {s : List ℕ} (laid : Laid g s) (u first n : ℕ) (rows : f
       z : Sized g.m g.b g.column
       z = laid.sized
 
--- the next band, of n rows of those that are left and have room in p bytes, where no band stops short of the end
-pub whole_band : {m b c : ℕ} → Sized m b c → (first n p : ℕ) → first < m - 1 → (0 < first → first ≡ m - 1) → c ≤ p → (m - 1 - first ≤ p / b → n ≡ m - 1 - first)
-    → (first ≡ 0) × (n ≡ m - 1)
-whole_band {m} {b} {c} z first n p some none room left = by_order ((first ≡ 0) × (n ≡ m - 1)) 0 first
-    (λ later. absurd (omega (arith, none later)))
-    (λ begin. (omega arith, omega (arith, left (omega (arith, cells_fit (m - 1) b p z.filled (omega (arith, column_is m b c z)))))))
+-- where a column has room in p bytes, so many rows have it
+pub whole_band : {m b c : ℕ} → Sized m b c → (p : ℕ) → c ≤ p → m - 1 ≤ p / b
+whole_band {m} {b} {c} z p room = cells_fit (m - 1) b p z.filled (omega (arith, column_is m b c z))
 
 -- ---- band after band
 
 module _ (m k b u : ℕ) where
-  pub bands_none : (s : List ℕ) → BandRewritten m k b u 0 0 s s
-  bands_none s = record { size = refl; rows = λ r valid same l i hl hi. absurd (omega arith); before = λ l i hl hi. refl; other = λ l i y hl hi hy ne. refl }
-
   pub bands_next : {first n : ℕ} {s o t : List ℕ} → BandRewritten m k b u 0 first s o → BandRewritten m k b u first n o t → BandRewritten m k b u 0 (first + n) s t
   bands_next {first} {n} {s} {o} {t} p q = record {
     size = q.size ∙ p.size;

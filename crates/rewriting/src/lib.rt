@@ -22,47 +22,28 @@ fn rewrite_band(room: &mut [u8], s: &mut [u8], g: Grid, u: usize, first: usize, 
 }
 
 // Column u becomes what the other columns say, in bands of as many rows as have room.
-fn rewrite_in(room: &mut [u8], s: &mut [u8], g: Grid, u: usize)
-    requires { (u < g.k + 2) × (g.b ≤ length room.old) × (g.b < 128 → g.column ≤ length room.old) × Laid g s.old }
+fn rewrite_with<const ROOM: usize>(s: &mut [u8], g: Grid, u: usize)
+    requires { (ROOM ≤ 16384) × (u < g.k + 2) × (g.b ≤ ROOM) × (g.b < 128 → g.column ≤ ROOM) × Laid g s.old }
     ensures { ColumnRewritten g.m g.k g.b u s.old s.new }
 {
     let b = g.b;
     let rows = g.m - 1;
-    let most = room.len() / b;
-    let mut first: usize = 0;
-    while first < rows {
-        let n = lines::fewer(most, rows - first);
-        rewrite_band(room, s, g, u, first, n);
-        first += n;
+    let mut room = [0u8; ROOM];
+    let most = ROOM / b;
+    for first in (0..rows).step_by(most) {
+        rewrite_band(&mut room, s, g, u, first, most.min(rows - first));
     }
 }
 
-// Column u becomes that, with room for a column of at most 2,048 bytes: room is cleared before it is used.
-fn rewrite_small(s: &mut [u8], g: Grid, u: usize)
-    requires { (g.column ≤ 2048) × Laid g s.old × (u < g.k + 2) }
-    ensures { ColumnRewritten g.m g.k g.b u s.old s.new }
-{
-    let mut room = [0u8; 2048];
-    rewrite_in(&mut room, s, g, u);
-}
-
-// Column u becomes that, with room for four cells of any length, and for any column of short ones.
-fn rewrite_large(s: &mut [u8], g: Grid, u: usize)
-    requires { Laid g s.old × (u < g.k + 2) }
-    ensures { ColumnRewritten g.m g.k g.b u s.old s.new }
-{
-    let mut room = [0u8; 16384];
-    rewrite_in(&mut room, s, g, u);
-}
-
-// Where the other columns fit a valid stripe, column u becomes that of it. It is not read.
+// Where the other columns fit a valid stripe, column u becomes that of it. It is not read. Room is cleared before it is used: a short column has room for
+// itself alone, and any other for four cells of any length, or for all of its short ones.
 pub fn rewrite(s: &mut [u8], g: Grid, u: usize)
     requires { Laid g s.old × (u < g.k + 2) }
     ensures { ColumnRewritten g.m g.k g.b u s.old s.new }
 {
     if g.column <= 2048 {
-        rewrite_small(s, g, u);
+        rewrite_with::<2048>(s, g, u);
     } else {
-        rewrite_large(s, g, u);
+        rewrite_with::<16384>(s, g, u);
     }
 }

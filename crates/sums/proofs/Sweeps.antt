@@ -1,39 +1,38 @@
 -- Lines of a stripe s summed over some of its columns, and then over the next.
 --   begun_at, begun_first, begun_next, begun_same   what a cell begins with, by case, and in a buffer that has the same bytes there
 --   begun_room                  room where a cell begins
---   same_room, same_cells       room for a cell, and for the first n cells, in a buffer as long
 --   all_of                      columns that begin with column 0, by their end
---   lines_cross                 lines of a stripe can be followed through its data columns
---   line_lt, line_next          a line modulo m is one of m, and the line of the next row
---   slant_lt                    a line reaches a column before it has gone up m rows
+--   line_next                   the line of the next row
 --   cells_next                  one more cell of a column filled
 --   Swept                       to each cell r of a column, line r + d was added: swept_none over no columns, swept_more over one more
 --   repeated                    a column cleared but for its last cell, and that one spread
---   InCell, InCells             a cell, or the first n cells, after the columns below t: in_cell_begin, in_cell_next, in_cells_begin, in_cells_next
-use mathlib.Core.Path.{◌≡◌, refl, sym, ap, ap₂, ◌∙◌, subst}
+--   InCells                     the first cells after the columns below t: in_cells_next
+--   InCell                      the same of one cell: in_cell_next
+--   over, over_join, onward     a line over some columns, and then over the next
+use mathlib.Core.Path.{◌≡◌, sym, ap, ap₂, ◌∙◌, subst}
 use mathlib.Core.Logic.{◌≢◌}
 use mathlib.Core.Bool.{Bool, cond}
 use mathlib.Core.List.{List}
 use Prim.Native.Nat.{ℕ, ◌+◌, ◌-◌, ◌*◌, ◌%◌, ◌≤◌, ◌<◌}
-use native.Mathlib.Nat.{mod-lt, mod-add-mod, mul-le-mul, mul-le-mul_right}
+use native.Mathlib.Nat.{mod-add-mod, mul-le-mul_right}
 use native.Mathlib.Decide.{ℕ_discrete}
 use native.Mathlib.Omega.{arith}
 use lib.Dec.{eqb}
 use lib.ListN.{length, get_or}
 use borrow.Author.Tests.{eq-eqb, ne_eqb}
 use Rattle.parity.specs.Xor.{◌⊕◌}
-use Rattle.parity.proofs.Xor.{⊕_assoc, zero_⊕}
+use Rattle.parity.proofs.Xor.{zero_⊕}
 use Rattle.cells.specs.Runs.{Put}
 use Rattle.cells.proofs.Parts.{by_order, parts_end}
 use Rattle.cells.proofs.Puts.{put_same}
 use Rattle.lines.specs.declared.Columns.{Columns}
 use Rattle.lines.specs.declared.Grid.{Grid}
-use Rattle.lines.specs.Lines.{Sized, Laid, Crosses}
+use Rattle.lines.specs.Lines.{Sized}
 use Rattle.lines.specs.Rows.{Lined, Room}
 use Rattle.lines.proofs.Lines.{span_none, span_more}
 use Rattle.lines.proofs.Places.{window_join}
-use Rattle.lines.proofs.Rows.{lined_more, lined_same, grown_none, grown_both, Grown}
-use Rattle.sums.specs.Sums.{begun, lane_of, window_of, span_of, cell_of, RoomForCells}
+use Rattle.lines.proofs.Rows.{lined_more, lined_same, grown_none, grown_both, Grown, plus_both}
+use Rattle.sums.specs.Sums.{begun, lane_of, window_of, span_of, cell_of}
 
 -- ---- what a cell begins with
 
@@ -68,41 +67,14 @@ begun_room {n} {b} {seed} {to} columns z e = subst (λ (x : ℕ). Room n b x to)
   })
 ])
 
-pub same_cells : {g : Grid} {p v n seed : ℕ} → RoomForCells g p n seed → v ≡ p → RoomForCells g v n seed
-same_cells {g} {n = n} {seed} z e = subst (λ (x : ℕ). RoomForCells g x n seed) (sym e) z
-
-pub same_room : {n v b seed to : ℕ} → Room n b seed to → v ≡ n → Room v b seed to
-same_room {b = b} {seed} {to} z e = subst (λ (x : ℕ). Room x b seed to) (sym e) z
-
 -- columns that begin with column 0, by their end
 pub all_of : (columns : Columns) {t : ℕ} → columns.from ≡ 0 → t ≡ columns.to → ◌≡◌ {A = Columns} (record { from = 0; to = t; u = columns.u; v = columns.v }) columns
 all_of columns first e = ap₂ (λ (x y : ℕ). record { from = x; to = y; u = columns.u; v = columns.v }) (sym first) e
 
 -- ---- lines
 
-pub lines_cross : {g : Grid} {s : List ℕ} {e i x y : ℕ} → Laid g s → e ≤ 1 → i < g.m → x ≤ y → y ≤ g.k → Crosses g.m g.column (length s) e i x y
-lines_cross {g} {s} {e} {y = y} z slant inside order most =
-    let w : e * y ≤ 1 * g.m = mul-le-mul slant (omega (arith, z.few)) in
-    let n : y * g.column ≤ (g.k + 2) * g.column = mul-le-mul_right g.column (omega arith) in
-    record {
-      slant = slant;
-      inside = inside;
-      order = order;
-      within = omega (arith, w);
-      most = omega (arith, z.few, z.sized.few);
-      columns = omega (arith, n, z.whole);
-    }
-
-pub line_lt : {m i : ℕ} (n : ℕ) → 0 < m → i ≡ n % m → i < m
-line_lt n h e = rw e (mod-lt n h)
-
 pub line_next : (m r d : ℕ) → ((r + d) % m + 1) % m ≡ (r + 1 + d) % m
 line_next m r d = let e : r + d + 1 ≡ r + 1 + d = omega arith in mod-add-mod (r + d) m 1 ∙ ap (λ (x : ℕ). x % m) e
-
-pub slant_lt : (e t m : ℕ) → e ≤ 1 → e * t + e ≤ m → 0 < m → e * t < m
-slant_lt e t m few h some = by_order (e * t < m) e 1
-    (λ none. let q : e * t ≡ 0 = (let z : e ≡ 0 = omega arith in let n : 0 * t ≡ 0 = omega arith in ap (λ (x : ℕ). x * t) z ∙ n) in omega arith)
-    (λ one. omega arith)
 
 -- ---- cell by cell
 
@@ -147,70 +119,72 @@ repeated {m} {b} {c} z w u v p q = record {
 
 -- ---- group after group
 
+-- Each of the first cells of o has what the cell of w at `seed` has, and f 0 t, what the columns below t add to it.
+module _ (rows b seed : ℕ) (f : ℕ → ℕ → ℕ → ℕ → ℕ) where
+  pub record InCells (w o : List ℕ) (t : ℕ) : Type 0 where
+    pub none : t ≡ 0 → o ≡ w
+    pub some : t ≢ 0 → Lined rows b 0 w o (λ r l. get_or w (seed + l) 0 ⊕ f 0 t r l)
+    pub size : length o ≡ length w
+
+  pub in_cells_next : ((r l t n : ℕ) → t ≢ 0 → f 0 t r l ⊕ f t n r l ≡ f 0 n r l) → (w o q : List ℕ) (columns : Columns) → columns.from < columns.to → InCells w o columns.from
+      → Lined rows b 0 o q (λ r l. begun columns o seed (r * b) l ⊕ f columns.from columns.to r l) → InCells w q columns.to
+  in_cells_next join w o q columns h p x = record {
+    none = λ z. absurd (omega arith);
+    some = λ _. elim (ℕ_discrete columns.from 0) [
+      | yes z ↦
+          subst (λ (v : List ℕ). Lined rows b 0 v q (λ r l. get_or w (seed + l) 0 ⊕ f 0 columns.to r l)) (p.none z) (lined_same x (λ r l hr hl.
+          ap₂ ◌⊕◌ (begun_first columns seed (r * b) l o z ∙ ap (λ (v : List ℕ). get_or v (seed + l) 0) (p.none z)) (ap (λ (v : ℕ). f v columns.to r l) z)))
+      | no z ↦
+          let a = p.some z in record {
+            size = x.size ∙ a.size;
+            inside = λ r l hr hl.
+                let e : r * b + l ≡ 0 + (r * b + l) = omega arith in
+                plus_both (get_or w (seed + l) 0) (f 0 columns.from r l) (f columns.from columns.to r l) (a.inside r l hr hl)
+                (x.inside r l hr hl ∙ ap (λ (v : ℕ). v ⊕ f columns.from columns.to r l) (begun_next columns seed (r * b) l o z ∙ ap (λ (v : ℕ). get_or o v 0) e))
+                (join r l columns.from columns.to z);
+            before = λ v hv. x.before v hv ∙ a.before v hv;
+            after = λ v hv. x.after v hv ∙ a.after v hv;
+          }
+    ];
+    size = x.size ∙ p.size;
+  }
+
+-- the same of the cell at `to` alone
+module _ (b seed to : ℕ) (f : ℕ → ℕ → ℕ → ℕ) where
+  pub record InCell (w o : List ℕ) (t : ℕ) : Type 0 where
+    pub none : t ≡ 0 → o ≡ w
+    pub some : t ≢ 0 → Put w o to b (λ l. get_or w (seed + l) 0 ⊕ f 0 t l)
+    pub size : length o ≡ length w
+
+  pub in_cell_next : ((l t n : ℕ) → t ≢ 0 → f 0 t l ⊕ f t n l ≡ f 0 n l) → (w o q : List ℕ) (columns : Columns) → columns.from < columns.to → InCell w o columns.from
+      → Put o q to b (λ l. begun columns o seed to l ⊕ f columns.from columns.to l) → InCell w q columns.to
+  in_cell_next join w o q columns h p x = record {
+    none = λ z. absurd (omega arith);
+    some = λ _. elim (ℕ_discrete columns.from 0) [
+      | yes z ↦
+          subst (λ (v : List ℕ). Put v q to b (λ l. get_or w (seed + l) 0 ⊕ f 0 columns.to l)) (p.none z) (put_same x (λ l hl.
+          ap₂ ◌⊕◌ (begun_first columns seed to l o z ∙ ap (λ (v : List ℕ). get_or v (seed + l) 0) (p.none z)) (ap (λ (v : ℕ). f v columns.to l) z)))
+      | no z ↦
+          let a = p.some z in record {
+            size = x.size ∙ a.size;
+            inside = λ l hl.
+                plus_both (get_or w (seed + l) 0) (f 0 columns.from l) (f columns.from columns.to l) (a.inside l hl)
+                (x.inside l hl ∙ ap (λ (v : ℕ). v ⊕ f columns.from columns.to l) (begun_next columns seed to l o z)) (join l columns.from columns.to z);
+            before = λ v hv. x.before v hv ∙ a.before v hv;
+            after = λ v hv. x.after v hv ∙ a.after v hv;
+          }
+    ];
+    size = x.size ∙ p.size;
+  }
+
+-- a line over some columns, and then over the next
 module _ (g : Grid) (s : List ℕ) (e u v : ℕ) where
   abbrev pub over : ℕ → ℕ → Columns
   over x y = record { from = x; to = y; u = u; v = v }
 
+  pub over_join : (i l t n : ℕ) → t ≢ 0 → window_of g s e i (over 0 t) l ⊕ window_of g s e i (over t n) l ≡ window_of g s e i (over 0 n) l
+  over_join i l t n z = window_join g.m g.k (lane_of g s (over 0 t) l) e i t n z
+
   -- the next columns after those below t
   pub onward : {w : ℕ} (o i t n l x : ℕ) → t ≢ 0 → w ≡ o ⊕ window_of g s e i (over 0 t) l → x ≡ w ⊕ window_of g s e i (over t n) l → x ≡ o ⊕ window_of g s e i (over 0 n) l
-  onward o i t n l x ne p q =
-      q ∙ ap (λ (y : ℕ). y ⊕ window_of g s e i (over t n) l) p ∙ ⊕_assoc o (window_of g s e i (over 0 t) l) (window_of g s e i (over t n) l)
-      ∙ ap (λ (y : ℕ). o ⊕ y) (window_join g.m g.k (lane_of g s (over 0 t) l) e i t n ne)
-
-  module _ (i seed to : ℕ) where
-    pub record InCell (w o : List ℕ) (t : ℕ) : Type 0 where
-      pub none : t ≡ 0 → o ≡ w
-      pub some : t ≢ 0 → Put w o to g.b (λ l. get_or w (seed + l) 0 ⊕ window_of g s e i (over 0 t) l)
-      pub size : length o ≡ length w
-
-    pub in_cell_begin : (w : List ℕ) → InCell w w 0
-    in_cell_begin w = record { none = λ h. refl; some = λ h. absurd (h refl); size = refl }
-
-    pub in_cell_next : (w o q : List ℕ) (t n : ℕ) → t < n → InCell w o t → Put o q to g.b (λ l. begun (over t n) o seed to l ⊕ window_of g s e i (over t n) l) → InCell w q n
-    in_cell_next w o q t n h p f = record {
-      none = λ z. absurd (omega arith);
-      some = λ _. elim (ℕ_discrete t 0) [
-        | yes z ↦
-            subst (λ (x : List ℕ). Put x q to g.b (λ l. get_or w (seed + l) 0 ⊕ window_of g s e i (over 0 n) l)) (p.none z) (put_same f (λ l hl.
-            ap₂ ◌⊕◌ (begun_first (over t n) seed to l o z ∙ ap (λ (x : List ℕ). get_or x (seed + l) 0) (p.none z)) (ap (λ (x : ℕ). window_of g s e i (over x n) l) z)))
-        | no z ↦
-            let a = p.some z in record {
-              size = f.size ∙ a.size;
-              inside = λ l hl. onward (get_or w (seed + l) 0) i t n l (get_or q (to + l) 0) z (a.inside l hl) (f.inside l hl ∙ ap (λ (x : ℕ). x ⊕ window_of g s e i (over t n) l) (begun_next (over t n) seed to l o z));
-              before = λ x hx. f.before x hx ∙ a.before x hx;
-              after = λ x hx. f.after x hx ∙ a.after x hx;
-            }
-      ];
-      size = f.size ∙ p.size;
-    }
-
-  module _ (rows d seed : ℕ) where
-    pub record InCells (w o : List ℕ) (t : ℕ) : Type 0 where
-      pub none : t ≡ 0 → o ≡ w
-      pub some : t ≢ 0 → Lined rows g.b 0 w o (λ r l. get_or w (seed + l) 0 ⊕ window_of g s e ((r + d) % g.m) (over 0 t) l)
-      pub size : length o ≡ length w
-
-    pub in_cells_begin : (w : List ℕ) → InCells w w 0
-    in_cells_begin w = record { none = λ h. refl; some = λ h. absurd (h refl); size = refl }
-
-    pub in_cells_next : (w o q : List ℕ) (t n : ℕ) → t < n → InCells w o t
-        → Lined rows g.b 0 o q (λ r l. begun (over t n) o seed (r * g.b) l ⊕ window_of g s e ((r + d) % g.m) (over t n) l) → InCells w q n
-    in_cells_next w o q t n h p f = record {
-      none = λ z. absurd (omega arith);
-      some = λ _. elim (ℕ_discrete t 0) [
-        | yes z ↦
-            subst (λ (x : List ℕ). Lined rows g.b 0 x q (λ r l. get_or w (seed + l) 0 ⊕ window_of g s e ((r + d) % g.m) (over 0 n) l)) (p.none z) (lined_same f (λ r l hr hl.
-            ap₂ ◌⊕◌ (begun_first (over t n) seed (r * g.b) l o z ∙ ap (λ (x : List ℕ). get_or x (seed + l) 0) (p.none z)) (ap (λ (x : ℕ). window_of g s e ((r + d) % g.m) (over x n) l) z)))
-        | no z ↦
-            let a = p.some z in record {
-              size = f.size ∙ a.size;
-              inside = λ r l hr hl.
-                  let x : r * g.b + l ≡ 0 + (r * g.b + l) = omega arith in
-                  onward (get_or w (seed + l) 0) ((r + d) % g.m) t n l (get_or q (0 + (r * g.b + l)) 0) z (a.inside r l hr hl)
-                  (f.inside r l hr hl ∙ ap (λ (y : ℕ). y ⊕ window_of g s e ((r + d) % g.m) (over t n) l) (begun_next (over t n) seed (r * g.b) l o z ∙ ap (λ (y : ℕ). get_or o y 0) x));
-              before = λ x hx. f.before x hx ∙ a.before x hx;
-              after = λ x hx. f.after x hx ∙ a.after x hx;
-            }
-      ];
-      size = f.size ∙ p.size;
-    }
+  onward o i t n l x ne p q = plus_both o (window_of g s e i (over 0 t) l) (window_of g s e i (over t n) l) p q (over_join i l t n ne)

@@ -24,22 +24,8 @@ fn fill_part(acc: &mut [u8], w: &mut [u8], seed: usize, s: &[u8], at: &[usize], 
     cells::copy_into(&mut w[from..from + acc.len()], acc);
 }
 
-// The first lanes of the cell at `to`, of b bytes, become that sum, 128 at a time, as far as they go. The number of lanes done.
-fn fill_blocks(w: &mut [u8], seed: usize, s: &[u8], b: usize, at: &[usize], to: usize) -> usize
-    requires { Filling w.old s.now b at.now seed to }
-    ensures { (result ≤ b) × Put w.old w.new to result (filled w.old seed s.now at.now) }
-{
-    let mut acc = [0u8; 128];
-    let mut j: usize = 0;
-    while 128 <= b - j {
-        fill_part(&mut acc, w, seed, s, at, to, j);
-        j += 128;
-    }
-    j
-}
-
-// The lanes from x on become that sum, 16 at a time, as far as they go. The number of lanes done.
-fn fill_small(
+// The lanes from x on of the cell at `to`, of b bytes, become that sum, N at a time, as far as they go. The lane that they go to.
+fn fill_by<const N: usize>(
     w: &mut [u8],
     seed: usize,
     s: &[u8],
@@ -48,39 +34,27 @@ fn fill_small(
     to: usize,
     x: usize,
 ) -> usize
-    requires { (x ≤ b) × Filling w.old s.now b at.now seed to }
-    ensures { (x ≤ result) × (result ≤ b) × (b < result + 16) × Put w.old w.new (to + x) (result - x) (λ l. filled w.old seed s.now at.now (x + l)) }
+    requires { (0 < N) × (x ≤ b) × Filling w.old s.now b at.now seed to }
+    ensures { (x ≤ result) × (result ≤ b) × (b < result + N) × Put w.old w.new (to + x) (result - x) (λ l. filled w.old seed s.now at.now (x + l)) }
 {
-    let mut acc = [0u8; 16];
-    let mut j = x;
-    while 16 <= b - j {
+    let mut acc = [0u8; N];
+    let end = b - (b - x) % N;
+    for j in (x..end).step_by(N) {
         fill_part(&mut acc, w, seed, s, at, to, j);
-        j += 16;
     }
-    j
+    end
 }
 
-// The lanes from j on, of which there are fewer than 16, become that sum.
-fn fill_rest(w: &mut [u8], seed: usize, s: &[u8], b: usize, at: &[usize], to: usize, j: usize)
-    requires { (j ≤ b) × (b < j + 16) × Filling w.old s.now b at.now seed to }
-    ensures { Put w.old w.new (to + j) (b - j) (λ l. filled w.old seed s.now at.now (j + l)) }
-{
-    if j < b {
-        let mut rest = [0u8; 16];
-        fill_part(&mut rest[0..b - j], w, seed, s, at, to, j);
-    }
-}
-
-// The first lanes again, as far as blocks go. Eight places are handed on as eight, a number that the compiler then knows, and unrolls the sum by: this
+// The first lanes, as far as blocks of 128 go. Eight places are handed on as eight, a number that the compiler then knows, and unrolls the sum by: this
 // buys a tenth of the time of a sum.
 fn fill_eight(w: &mut [u8], seed: usize, s: &[u8], b: usize, at: &[usize], to: usize) -> usize
     requires { Filling w.old s.now b at.now seed to }
     ensures { (result ≤ b) × Put w.old w.new to result (filled w.old seed s.now at.now) }
 {
     if at.len() == 8 {
-        return fill_blocks(w, seed, s, b, &at[0..8], to);
+        return fill_by::<128>(w, seed, s, b, &at[0..8], to, 0);
     }
-    fill_blocks(w, seed, s, b, at, to)
+    fill_by::<128>(w, seed, s, b, at, to, 0)
 }
 
 // The cell of w at `to`, of b bytes, becomes its seed plus the cells of s at the places `at`. The seed is the cell of w at `seed`, which may be that cell
@@ -90,15 +64,16 @@ pub fn fill_places(w: &mut [u8], seed: usize, s: &[u8], b: usize, at: &[usize], 
     ensures { Put w.old w.new to b (filled w.old seed s.now at.now) }
 {
     let x = fill_eight(w, seed, s, b, at, to);
-    let j = fill_small(w, seed, s, b, at, to, x);
-    fill_rest(w, seed, s, b, at, to, j);
+    let y = fill_by::<16>(w, seed, s, b, at, to, x);
+    let z = fill_by::<4>(w, seed, s, b, at, to, y);
+    fill_by::<1>(w, seed, s, b, at, to, z);
 }
 
-// What a sum over those columns begins with: the seed where they are the first, else what stands in its cell.
-fn begin_at(columns: Columns, seed: usize, to: usize) -> usize
-    ensures { result ≡ cond (eqb columns.from 0) seed to }
+// What a sum over the columns from `from` on begins with: the seed where they are the first, else what stands in its cell.
+pub fn begin_at(from: usize, seed: usize, to: usize) -> usize
+    ensures { result ≡ cond (eqb from 0) seed to }
 {
-    if columns.from == 0 {
+    if from == 0 {
         return seed;
     }
     to
@@ -122,7 +97,7 @@ pub fn fill_line(
     let b = g.b;
     let mut at = [0usize; 9];
     let n = lines::find_line(&mut at, g, slant, i, columns);
-    fill_places(w, begin_at(columns, seed, to), s, b, &at[0..n], to);
+    fill_places(w, begin_at(columns.from, seed, to), s, b, &at[0..n], to);
 }
 
 // The cell of w at `to` becomes its seed plus line i, with its end, over those columns, which begin with column 0.
@@ -140,11 +115,9 @@ pub fn sum_line(
     ensures { Put w.old w.new to g.b (λ l. get_or w.old (seed + l) 0 ⊕ window_of g s.now slant i columns l) }
 {
     let end = columns.to;
-    let mut t: usize = 0;
-    while t < end {
-        let e = lines::group_end(t, end);
-        fill_line(w, seed, s, g, slant, i, lines::part_of(columns, t, e), to);
-        t = e;
+    for t in (0..end).step_by(8) {
+        let group = lines::part_of(columns, t, end.min(t + 8));
+        fill_line(w, seed, s, g, slant, i, group, to);
     }
 }
 
@@ -264,7 +237,7 @@ pub fn sum_lines(
 }
 
 // Of the first n cells of w each cell r becomes what the cell at `seed` holds plus line r + shift modulo m, with its end, over those columns, which begin with
-// column 0.
+// column 0. The loop is that of `sum_line`; one function of both would be told by a closure which sum it calls, and be no plainer.
 pub fn sum_cells(
     w: &mut [u8],
     seed: usize,
@@ -279,19 +252,8 @@ pub fn sum_cells(
     ensures { Lined n g.b 0 w.old w.new (λ r l. get_or w.old (seed + l) 0 ⊕ window_of g s.now slant (ahead g.m r shift) columns l) }
 {
     let end = columns.to;
-    let mut t: usize = 0;
-    while t < end {
-        let e = lines::group_end(t, end);
-        sum_lines(
-            w,
-            seed,
-            n,
-            s,
-            g,
-            slant,
-            shift,
-            lines::part_of(columns, t, e),
-        );
-        t = e;
+    for t in (0..end).step_by(8) {
+        let group = lines::part_of(columns, t, end.min(t + 8));
+        sum_lines(w, seed, n, s, g, slant, shift, group);
     }
 }

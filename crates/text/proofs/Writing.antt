@@ -1,21 +1,21 @@
 -- Laws of written text.
 --   wrote_none, wrote_then    nothing written, and one piece after another
 --   wrote_same                the same text by another name
---   wrote_byte, wrote_part    one byte set, and a lent part that came back as the text
---   glyph_low, glyph_high     a digit below 10, and one from 10 on
---   decimal_1 .. decimal_4    a number in decimal, by how many digits it has
+--   wrote_part                a lent part that came back as the text
+--   decimal_one, decimal_more a number in decimal: one digit, and the last after the others
 --   wrote_decimal, wrote_hex  a number or bytes written, with how far that goes
 --   length_hex                each byte has two digits
 --   hex_next                  one more byte in hexadecimal
 use mathlib.Core.Path.{◌≡◌, refl, sym, ap, ◌∙◌}
 use mathlib.Core.Bool.{Bool, true, false, cond}
 use mathlib.Core.List.{List, [], ◌∷◌, ◌++◌, append_assoc, append-nil}
-use Prim.Native.Nat.{ℕ, ◌+◌, ◌*◌, ◌-◌, ◌≤◌, ◌<◌}
+use Prim.Native.Nat.{ℕ, ◌+◌, ◌*◌, ◌/◌, ◌%◌, ◌≤◌, ◌<◌}
 use native.Mathlib.Numerals.{add-one}
+use native.Mathlib.Decide.{dec_lt}
 use native.Mathlib.Omega.{arith}
 use lib.Dec.{ltb}
-use lib.ListN.{length, take, drop, get_or, set, length-append, length-set}
-use lib.Seq.{take-suc, take-suc-set, take-append-add, drop-append-add, drop-set-lt, drop-drop, length-take-le}
+use lib.ListN.{length, take, drop, get_or, length-append}
+use lib.Seq.{take-suc, take-append-add, drop-append-add, drop-drop, length-take-le}
 use borrow.Author.Tests.{lt-ltb, le-ltb}
 use borrow.Rule.Slice.PartMut.{put_mid}
 use Rattle.cells.proofs.Parts.{mid_length}
@@ -41,14 +41,6 @@ wrote_then {x} {y} {z} {at} {p} {r} {t} {u} a b = record {
 pub wrote_same : {x y : List ℕ} {at r : ℕ} {t u : List ℕ} → Wrote x y at r t → t ≡ u → Wrote x y at r u
 wrote_same w e = rw e at w
 
-pub wrote_byte : (x : List ℕ) (at v : ℕ) → at + 1 ≤ length x → Wrote x (set x at v) at (at + 1) (v ∷ [])
-wrote_byte x at v room = record {
-  size = length-set x at v;
-  ends = refl;
-  text = rw add-one (take-suc-set x at v (omega arith));
-  rest = drop-set-lt (at + 1) x at v (omega arith);
-}
-
 pub wrote_part : (x t : List ℕ) (at n r : ℕ) → at + n ≤ length x → length t ≡ n → r ≡ at + n → Wrote x (put_mid at n x t) at r t
 wrote_part x t at n r room l e = record {
   size = mid_length x t at n room l;
@@ -69,35 +61,42 @@ wrote_part x t at n r room l e = record {
       ∙ ap (λ (k : ℕ). drop k x) (sym e);
 }
 
-pub glyph_low : (d : ℕ) → d < 10 → 48 + d ≡ glyph d
-glyph_low d h = rw (lt-ltb d 10 h)
-
-pub glyph_high : (d : ℕ) → 10 ≤ d → 87 + d ≡ glyph d
-glyph_high d h = rw (le-ltb d 10 h)
-
-pub decimal_1 : (n : ℕ) → n < 10 → glyph n ∷ [] ≡ decimal n
+pub decimal_one : (n : ℕ) → n < 10 → glyph n ∷ [] ≡ decimal n
 unfolding decimal
-decimal_1 n h = rw (lt-ltb n 10 h)
+decimal_one n h = rw (lt-ltb n 10 h)
 
-module _ (n : ℕ) (a : 10 ≤ n) where
-  pub decimal_2 : n < 100 → two n ≡ decimal n
+module _ (n : ℕ) where
+  three_more : two (n / 10) ++ glyph (n % 10) ∷ [] ≡ three n
+  three_more =
+      let a : n / 10 / 10 ≡ n / 100 = omega arith in
+      let b : n / 10 % 10 ≡ n % 100 / 10 = omega arith in
+      let d : n % 10 ≡ n % 100 % 10 = omega arith in
+      rw (a, b, d)
+
+  four_more : three (n / 10) ++ glyph (n % 10) ∷ [] ≡ four n
+  four_more =
+      let a : n / 10 / 100 ≡ n / 1000 = omega arith in
+      let b : n / 10 % 100 / 10 ≡ n % 1000 / 100 = omega arith in
+      let d : n / 10 % 100 % 10 ≡ n % 1000 % 100 / 10 = omega arith in
+      let e : n % 10 ≡ n % 1000 % 100 % 10 = omega arith in
+      rw (a, b, d, e)
+
+  -- the last digit after the others
+  pub decimal_more : 10 ≤ n → n < 10000 → decimal (n / 10) ++ glyph (n % 10) ∷ [] ≡ decimal n
   unfolding decimal
-  decimal_2 h = rw (le-ltb n 10 a, lt-ltb n 100 h)
-
-  module _ (b : 100 ≤ n) where
-    pub decimal_3 : n < 1000 → three n ≡ decimal n
-    unfolding decimal
-    decimal_3 h = rw (le-ltb n 10 a, le-ltb n 100 b, lt-ltb n 1000 h)
-
-    pub decimal_4 : 1000 ≤ n → four n ≡ decimal n
-    unfolding decimal
-    decimal_4 h = rw (le-ltb n 10 a, le-ltb n 100 b, le-ltb n 1000 h)
+  decimal_more low most = elim (dec_lt n 100) [
+    | yes h ↦ rw (lt-ltb (n / 10) 10 (omega arith), le-ltb n 10 low, lt-ltb n 100 h)
+    | no h ↦ elim (dec_lt n 1000) [
+      | yes h' ↦ rw (le-ltb (n / 10) 10 (omega arith), lt-ltb (n / 10) 100 (omega arith), le-ltb n 10 low, le-ltb n 100 (omega arith), lt-ltb n 1000 h') three_more
+      | no h' ↦ rw (le-ltb (n / 10) 10 (omega arith), le-ltb (n / 10) 100 (omega arith), lt-ltb (n / 10) 1000 (omega arith), le-ltb n 10 low, le-ltb n 100 (omega arith), le-ltb n 1000 (omega arith)) four_more
+    ]
+  ]
 
 cond_most : (c : Bool) (s t : List ℕ) (n : ℕ) → length s ≤ n → length t ≤ n → length (cond c s t) ≤ n
 cond_most true s t n p q = p
 cond_most false s t n p q = q
 
-length_decimal : (n : ℕ) → length (decimal n) ≤ 4
+pub length_decimal : (n : ℕ) → length (decimal n) ≤ 4
 unfolding decimal
 length_decimal n =
     cond_most (ltb n 10) (glyph n ∷ []) _ 4 (omega arith)
@@ -107,9 +106,6 @@ pub length_hex : (s : List ℕ) → length (hex s) ≡ 2 * length s
 unfolding hex
 length_hex [] = refl
 length_hex (x ∷ s) = omega (arith, length_hex s)
-
-pub wrote_decimal : {x y : List ℕ} {at r : ℕ} {t : List ℕ} (n : ℕ) → Wrote x y at r t → t ≡ decimal n → Wrote x y at r (decimal n) × (r ≤ at + 4)
-wrote_decimal n w e = (wrote_same w e, omega (arith, w.ends, ap length e, length_decimal n))
 
 pub wrote_hex : {x y : List ℕ} {at r : ℕ} {t s : List ℕ} → Wrote x y at r (hex t) → t ≡ s → Wrote x y at r (hex s) × (r ≡ at + 2 * length s)
 wrote_hex {t = t} w e = (wrote_same w (ap hex e), omega (arith, w.ends, length_hex t, ap length e))

@@ -3,14 +3,14 @@
 #![tactic(auto)]
 
 ghost use Rattle.std.specs.Prelude.{◌≡◌, [], ◌∷◌, ◌+◌, ◌*◌, ◌≤◌, ◌<◌, length};
-ghost use Rattle.text.specs.Text.{glyph, two, three, four, decimal, hex_byte, hex, Wrote};
+ghost use Rattle.text.specs.Text.{glyph, decimal, hex_byte, hex, Wrote};
 
 // The digit d, in lower case.
 fn digit(d: u8) -> u8
     requires { d < 16 }
     ensures { result ≡ glyph d }
 {
-    if d < 10 { 48 + d } else { 87 + d }
+    if d < 10 { b'0' + d } else { b'a' + (d - 10) }
 }
 
 // A number below 10 as its digit.
@@ -36,35 +36,20 @@ pub fn put_word(out: &mut [u8], at: usize, word: &[u8]) -> usize
     ensures { Wrote out.old out.new at result word.now }
 {
     let end = at + word.len();
-    cells::copy_into(&mut out[at..end], word);
+    out[at..end].copy_from_slice(word);
     end
 }
 
-// Writes n as two digits.
-fn put_two(out: &mut [u8], at: usize, n: usize) -> usize
-    requires { (n < 100) × (at + 2 ≤ length out.old) }
-    ensures { Wrote out.old out.new at result (two n) }
+// Writes n in decimal, its last digit after the others.
+fn put_digits(out: &mut [u8], at: usize, n: usize) -> usize
+    requires { (n < 10000) × (at + length (decimal n) ≤ length out.old) }
+    ensures { Wrote out.old out.new at result (decimal n) }
 {
-    let next = put_byte(out, at, decimal_digit(n / 10));
+    if n < 10 {
+        return put_byte(out, at, decimal_digit(n));
+    }
+    let next = put_digits(out, at, n / 10);
     put_byte(out, next, decimal_digit(n % 10))
-}
-
-// Writes n as three digits.
-fn put_three(out: &mut [u8], at: usize, n: usize) -> usize
-    requires { (n < 1000) × (at + 3 ≤ length out.old) }
-    ensures { Wrote out.old out.new at result (three n) }
-{
-    let next = put_byte(out, at, decimal_digit(n / 100));
-    put_two(out, next, n % 100)
-}
-
-// Writes n as four digits.
-fn put_four(out: &mut [u8], at: usize, n: usize) -> usize
-    requires { (n < 10000) × (at + 4 ≤ length out.old) }
-    ensures { Wrote out.old out.new at result (four n) }
-{
-    let next = put_byte(out, at, decimal_digit(n / 1000));
-    put_three(out, next, n % 1000)
 }
 
 // Writes n in decimal, without zeros in front.
@@ -72,16 +57,7 @@ pub fn put_decimal(out: &mut [u8], at: usize, n: usize) -> usize
     requires { (n < 10000) × (at + 4 ≤ length out.old) }
     ensures { Wrote out.old out.new at result (decimal n) × (result ≤ at + 4) }
 {
-    if n < 10 {
-        return put_byte(out, at, decimal_digit(n));
-    }
-    if n < 100 {
-        return put_two(out, at, n);
-    }
-    if n < 1000 {
-        return put_three(out, at, n);
-    }
-    put_four(out, at, n)
+    put_digits(out, at, n)
 }
 
 // Writes a byte as two hexadecimal digits.
@@ -99,8 +75,8 @@ pub fn put_hex(out: &mut [u8], at: usize, bytes: &[u8]) -> usize
     ensures { Wrote out.old out.new at result (hex bytes.now) × (result ≡ at + 2 * length bytes.now) }
 {
     let mut next = at;
-    for i in 0..bytes.len() {
-        next = put_hex_byte(out, next, bytes[i]);
+    for &byte in bytes {
+        next = put_hex_byte(out, next, byte);
     }
     next
 }

@@ -1,19 +1,12 @@
 -- `cells::add_within` meets its contract. The invariant: the first l bytes at `at` are added to, all others as they were.
-use mathlib.Core.Path.{◌≡◌, refl, ap₂, subst}
-use Prim.Native.Nat.{ℕ, ◌+◌}
+use mathlib.Core.Path.{◌≡◌, ap₂}
+use Prim.Native.Nat.{◌+◌}
 use lib.ListN.{get_or, length-set}
 use Rattle.parity.specs.Xor.{◌⊕◌}
-use Rattle.cells.specs.Runs.{Put}
 use Rattle.cells.proofs.Parts.{by_order}
-use Rattle.cells.proofs.Puts.{put_none, put_one}
-use borrow.Author.Rules.{rules}
+use Rattle.cells.proofs.Puts.{put_one}
 use native.Mathlib.Omega.{arith}
 use Rattle.cells.proofs.add_within.Goals as goal
-
-pub loop-l-init : goal.loop-l-init
-loop-l-init c =
-    let w = c.args.w.now in
-    (search rules, refl, put_none w c.args.at (λ x. get_or w (c.args.at + x) 0 ⊕ get_or w (c.args.from + x) 0))
 
 pub loop-l-preserved : goal.loop-l-preserved
 unfolding ◌⊕◌
@@ -30,10 +23,3 @@ loop-l-preserved c =
           (by_order (get_or y.w (a.from + y.l) 0 ≡ get_or w (a.from + y.l) 0) a.from a.at (λ q. p.before (a.from + y.l) (omega (arith, c.requires.2 q))) (λ q. p.after (a.from + y.l) (omega arith))))
           p,
     )
-
-pub returns : goal.returns
-returns c =
-    let a = c.args in
-    let w = a.w.now in
-    let e : c.loop-l.l ≡ a.n = omega arith in
-    subst (λ (x : ℕ). Put w c.loop-l.w a.at x (λ x. get_or w (a.at + x) 0 ⊕ get_or w (a.from + x) 0)) e c.loop-l.invariant.2

@@ -1,24 +1,18 @@
--- `cells::any` meets its contract. The invariant: o tells of the bytes before j.
-use mathlib.Core.Path.{◌≡◌, refl, subst}
+-- `cells::any` meets its contract: what was or-ed together so far tells of the bytes so far.
+use mathlib.Core.Path.{◌≡◌, subst}
+use mathlib.Core.List.{List}
 use Prim.Native.Nat.{ℕ}
+use lib.Bits.{bit_or}
 use lib.ListN.{length, get_or}
-use Rattle.cells.specs.Runs.{Tells}
-use Rattle.cells.proofs.Tells.{tells_none, tells_one}
 use borrow.Author.Rules.{rules}
-use native.Mathlib.Omega.{arith}
+use Rattle.std.proofs.lemmas.Fn.{fold_over, fronts, slice_gives}
+use Rattle.cells.specs.Runs.{Tells}
+use Rattle.cells.proofs.Tells.{tells_none, tells_push}
 use Rattle.cells.proofs.any.Goals as goal
-
-pub loop-j-init : goal.loop-j-init
-loop-j-init c = (search rules, search rules, tells_none (λ l. get_or c.args.x.now l 0))
-
-pub loop-j-preserved : goal.loop-j-preserved
-loop-j-preserved c =
-    let at = c.loop-j in
-    let x = c.args.x.now in
-    (search rules, search rules, tells_one at.o at.j (λ l. get_or x l 0) (get_or x at.j 0) refl at.invariant.2)
 
 pub returns : goal.returns
 returns c =
-    let x = c.args.x.now in
-    let e : c.loop-j.j ≡ length x = omega arith in
-    subst (λ (n : ℕ). Tells c.loop-j.o n (λ l. get_or x l 0)) e c.loop-j.invariant.2
+    let tells : List ℕ → ℕ → Type 0 = λ ys o. Tells o (length ys) (λ l. get_or ys l 0) in
+    subst (λ (ys : List ℕ). Tells c.fold.result (length ys) (λ l. get_or ys l 0)) c.iter.ensures.rest
+    (fold_over fronts (λ y. y.now) _ tells _ (λ ys o x r f so call. let e : r ≡ bit_or o x.now = search rules in (rw e (tells_push ys o x.now so), search rules))
+    c.iter.result c.iter.result.rest.now 0 c.fold.result (slice_gives c.iter.result) (tells_none _) c.fold.ensures.ran)

@@ -1,28 +1,26 @@
 -- `encoding::put_cell` meets its contract: the places that are listed are those of the line, and no column is left out.
-use Prim.Native.Nat.{◌*◌, ◌≤◌}
-use native.Mathlib.Nat.{mul-le-mul_right}
-use Rattle.lines.proofs.Places.{within_part, follows_crosses}
-use Rattle.encoding.proofs.Values.{cell_summed, group_follows, line_places}
+use mathlib.Core.Path.{ap, ◌∙◌}
+use Prim.Native.Nat.{ℕ, ◌+◌}
+use lib.ListN.{get_or}
+use Rattle.parity.specs.Xor.{◌⊕◌}
+use Rattle.parity.specs.Stripe.{lane}
+use Rattle.parity.proofs.Xor.{zero_⊕}
+use Rattle.cells.proofs.Puts.{put_same}
+use Rattle.lines.specs.Lines.{span}
+use Rattle.lines.specs.Places.{without}
+use Rattle.lines.proofs.Places.{total_none, total_part}
+use Rattle.encoding.proofs.Ends.{every_column}
 use native.Mathlib.Omega.{arith}
 use Rattle.encoding.proofs.put_cell.Goals as goal
-
-pub add_places-n-requires : goal.add_places-n-requires
-add_places-n-requires c =
-    let p = c.requires in
-    (omega (arith, p.group.few), p.group.laid.sized, follows_crosses (group_follows p.group p.slant p.inside))
-
-pub put_all-requires : goal.put_all-requires
-put_all-requires c =
-    let a = c.args in
-    let y = c.add_places-n in
-    let p : a.t1 * a.g.column ≤ a.g.k * a.g.column = mul-le-mul_right a.g.column c.requires.group.most in
-    record {
-      within = within_part y.new.at y.result (omega arith) a.g.b a.to (y.ensures.within a.to (omega (arith, c.requires.past)) (λ x h. absurd (omega arith)));
-      room = c.requires.room;
-    }
 
 pub returns : goal.returns
 returns c =
     let a = c.args in
+    let s = a.s.now in
     let y = c.add_places-n in
-    cell_summed c.put_all.ensures (line_places a.slant a.i c.requires.group y.ensures (omega arith) a.s.now)
+    put_same c.fill_places.ensures (λ l h.
+    let over_columns : ℕ = span a.g.m (without 129 129 (lane a.g.m a.g.b s l)) a.slant a.i a.t0 a.t1 in
+    ap (λ (v : ℕ). get_or a.w.now (a.seed + l) 0 ⊕ v)
+    (total_part y.new.at y.result (omega arith) s l
+    ∙ y.ensures.sums s l ∙ ap (λ (v : ℕ). v ⊕ over_columns) (total_none _ s l) ∙ zero_⊕ over_columns
+    ∙ every_column a.g.m (lane a.g.m a.g.b s l) a.slant a.i a.t0 a.t1 (omega arith) (omega arith)))

@@ -1,14 +1,11 @@
--- `encoding::put_groups` meets its contract. The invariant: H and D have the sums over the columns before t; before the first group they are as they were.
-use mathlib.Core.Path.{◌≡◌}
-use mathlib.Core.Bool.{true}
-use Prim.Native.Nat.{◌≤◌, ◌<◌, ◌-◌}
+-- `encoding::put_groups` meets its contract. The invariant: H and D have the columns below t.
+use Prim.Native.Nat.{◌*◌, ◌-◌, ◌<◌}
 use lib.ListN.{length}
-use Rattle.encoding.specs.Sums.{Grown}
+use Rattle.sums.proofs.Sweeps.{InCells}
+use Rattle.encoding.specs.Sums.{spans}
 use Rattle.encoding.proofs.put_groups.Given as goal
 
 abbrev pub invariant-loop-t : goal.invariant-loop-t
 invariant-loop-t l =
-    (l.t ≤ l.g.k) × (length l.s ≡ length l.initial.s) × (l.t ≡ 0 → l.s ≡ l.initial.s) × (0 < l.t → Grown true l.g 0 l.t l.initial.s l.s 0 (l.g.m - 1))
-
-abbrev pub decreases-loop-t : goal.decreases-loop-t
-decreases-loop-t l = l.g.k - l.t
+    (l.t < l.g.k) × InCells (l.g.m - 1) l.g.b (length l.initial.h) (spans l.g l.s 0) l.initial.h l.h l.t
+    × InCells (l.g.m - 1) l.g.b ((l.g.m - 2) * l.g.b) (spans l.g l.s 1) l.initial.d l.d l.t

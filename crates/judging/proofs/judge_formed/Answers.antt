@@ -2,7 +2,7 @@
 use mathlib.Core.Path.{refl}
 use Prim.Native.Nat.{◌+◌, ◌*◌, ◌-◌}
 use Rattle.parity.specs.Shape.{column_length, stripe_length, bench_length}
-use Rattle.inputs.proofs.Shape.{column_most, places_most, parts_most}
+use Rattle.inputs.proofs.ShapeLaws.{column_most, places_most, parts_most}
 use Rattle.judging.proofs.Judged.{formed_good, formed_absent, part_size, formed_ambiguous, formed_stripe, formed_bench, formed_lent}
 use native.Mathlib.Omega.{arith}
 use Rattle.judging.proofs.judge_formed.Goals as goal

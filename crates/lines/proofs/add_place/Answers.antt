@@ -25,11 +25,6 @@ read_at m b c r t z h s l =
 pub overflow_mul-at : goal.overflow_mul-at
 overflow_mul-at c = omega (arith, starts c.args.t c.requires.1 c.requires.2)
 
-pub overflow_mul-at-then-r-m : goal.overflow_mul-at-then-r-m
-overflow_mul-at-then-r-m c =
-    let a = c.args in
-    omega (arith, cell_room a.g.m a.g.b a.g.column c.requires.2 a.r 0 a.g.b c.if-r-m.true (omega arith), column_most a.g.m a.g.b a.g.column c.requires.2)
-
 pub overflow_add-at : goal.overflow_add-at
 overflow_add-at c =
     let a = c.args in

@@ -13,30 +13,10 @@ use Rattle.lines.proofs.add_turned.Goals as goal
 from_start : {x n : ℕ} {w u : List ℕ} (f : ℕ → ℕ) → Put w u x n (λ l. get_or w (x + l) 0 ⊕ f l) → Put w u (0 + x) n (λ l. get_or w (0 + x + l) 0 ⊕ f l)
 from_start {x} {n} {w} {u} f = let e : x ≡ 0 + x = omega arith in subst (λ (y : ℕ). Put w u y n (λ l. get_or w (y + l) 0 ⊕ f l)) e
 
-pub overflow_mul-turn : goal.overflow_mul-turn
-overflow_mul-turn c =
-    omega (arith, first_run c.requires.3 c.args.turn c.requires.2, c.requires.0)
-
-pub overflow_mul-m : goal.overflow_mul-m
-overflow_mul-m c =
-    omega (arith, first_run c.requires.3 c.args.turn c.requires.2, c.requires.0)
-
 pub add_run-requires : goal.add_run-requires
 add_run-requires c =
     let e = first_run c.requires.3 c.args.turn c.requires.2 in
     (omega (arith, c.requires.0), omega (arith, c.requires.1))
-
-pub overflow_mul-m-then-turn-gt1 : goal.overflow_mul-m-then-turn-gt1
-overflow_mul-m-then-turn-gt1 c =
-    omega (arith, second_run c.requires.3 c.args.turn (omega (arith, c.if-turn-gt1.true)) (omega (arith, c.requires.2)), c.requires.1)
-
-pub overflow_add-from : goal.overflow_add-from
-overflow_add-from c =
-    omega (arith, second_run c.requires.3 c.args.turn (omega (arith, c.if-turn-gt1.true)) (omega (arith, c.requires.2)), c.requires.1)
-
-pub overflow_mul-turn-then-turn-gt1 : goal.overflow_mul-turn-then-turn-gt1
-overflow_mul-turn-then-turn-gt1 c =
-    omega (arith, second_run c.requires.3 c.args.turn (omega (arith, c.if-turn-gt1.true)) (omega (arith, c.requires.2)), c.requires.0)
 
 pub add_run-requires-then-turn-gt1 : goal.add_run-requires-then-turn-gt1
 add_run-requires-then-turn-gt1 c =

@@ -8,24 +8,15 @@ use Rattle.parity.specs.Stripe.{lane}
 use Rattle.cells.proofs.Parts.{parts_end}
 use Rattle.lines.specs.Lines.{real, span}
 use Rattle.lines.specs.Places.{without, window}
-use Rattle.lines.proofs.Places.{listed_then, listed_same, listed_ends, listed_most, window_start, window_next, follows_crosses}
+use Rattle.lines.proofs.Places.{listed_then, listed_same, listed_ends, listed_most, window_start, window_next}
 use native.Mathlib.Omega.{arith}
 use Rattle.lines.proofs.find_line.Goals as goal
-
-pub add_places-requires : goal.add_places-requires
-add_places-requires c =
-    (omega arith, c.requires.1.sized, follows_crosses c.requires.1)
 
 pub returns-then-columns-ne0 : goal.returns-then-columns-ne0
 returns-then-columns-ne0 c =
     let a = c.args in
     listed_same (listed_most (omega arith) (listed_ends (mul-le-mul_right a.g.column (omega (arith, c.requires.1.most))) c.add_places.ensures)) refl (λ s l.
     sym (window_next a.g.m a.g.k (without a.columns.u a.columns.v (lane a.g.m a.g.b s l)) a.slant a.i a.columns.from a.columns.to c.if-columns-ne0.true))
-
-pub add_places-requires-2 : goal.add_places-requires-2
-add_places-requires-2 c =
-    let n = c.add_place_but-n.ensures in
-    (omega (arith, c.requires.0, c.requires.1.order, n.most, n.size), c.requires.1.sized, follows_crosses c.requires.1)
 
 pub returns : goal.returns
 returns c =

@@ -5,12 +5,6 @@ use native.Mathlib.Nat.{le_refl}
 use native.Mathlib.Omega.{arith}
 use Rattle.lines.proofs.spread.Goals as goal
 
-pub overflow_mul-others : goal.overflow_mul-others
-overflow_mul-others c = omega (arith, last_cell c.requires.1 0, c.requires.0)
-
-pub overflow_add-at : goal.overflow_add-at
-overflow_add-at c = omega (arith, last_cell c.requires.1 0, c.requires.0)
-
 pub add_to_each-requires : goal.add_to_each-requires
 add_to_each-requires c =
     let e = last_cell c.requires.1 0 in

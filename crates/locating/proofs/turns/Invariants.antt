@@ -8,7 +8,4 @@ use Rattle.locating.proofs.turns.Given as goal
 
 abbrev pub invariant-loop-i : goal.invariant-loop-i
 invariant-loop-i l =
-    (l.i-end ≡ l.m - 1) × (l.i ≤ l.i-end) × ((j : ℕ) → j < l.i → get_or l.d j 0 ≡ get_or l.h (back l.m j l.u) 0 ⊕ get_or l.h (back l.m (l.m - 1) l.u) 0)
-
-abbrev pub decreases-loop-i : goal.decreases-loop-i
-decreases-loop-i l = l.i-end - l.i
+    (l.i ≤ l.m - 1) × ((j : ℕ) → j < l.i → get_or l.fn.d j 0 ≡ get_or l.h (back l.m j l.u) 0 ⊕ get_or l.h (back l.m (l.m - 1) l.u) 0)

@@ -1,6 +1,4 @@
 -- `maps::find_highest` meets its contract: the top of all places tells the highest.
-use mathlib.Core.Path.{◌≡◌}
-use lib.ListN.{length}
 use native.Mathlib.Omega.{arith}
 use Rattle.maps.proofs.Truth.{none_topped, topped_highest}
 use Rattle.maps.proofs.find_highest.Goals as goal

@@ -16,16 +16,6 @@ use Rattle.restoring.proofs.add_crossing.Goals as goal
 row_low : (m u : ℕ) → 0 < u → u < m → m - 1 - u < m - 1
 row_low m u some h = omega arith
 
-pub overflow_mul-m : goal.overflow_mul-m
-overflow_mul-m c = omega (arith, last_cell c.requires.2 0, c.requires.1)
-
-pub overflow_add-g : goal.overflow_add-g
-overflow_add-g c = omega (arith, last_cell c.requires.2 0, c.requires.1)
-
-pub overflow_mul-m-then-u-gt0 : goal.overflow_mul-m-then-u-gt0
-overflow_mul-m-then-u-gt0 c =
-    omega (arith, parts_end c.args.g.b (row_low c.args.g.m c.args.u c.if-u-gt0.true c.requires.0), c.requires.1, column_is c.args.g.m c.args.g.b c.args.g.column c.requires.2)
-
 pub add_within-requires : goal.add_within-requires
 add_within-requires c =
     let e = last_cell c.requires.2 0 in

@@ -1,14 +1,14 @@
 -- `restoring::add_total` meets its contract: the cells are those of a row whose columns are cells.
 use mathlib.Core.Path.{ap, ◌∙◌}
 use Prim.Native.Nat.{ℕ, ◌+◌}
-use lib.ListN.{length, get_or}
+use lib.ListN.{get_or}
 use Rattle.parity.specs.Xor.{◌⊕◌}
 use Rattle.parity.specs.Stripe.{lane}
 use Rattle.parity.proofs.Xor.{zero_⊕}
 use Rattle.cells.proofs.Puts.{put_same}
 use Rattle.lines.specs.Lines.{span}
 use Rattle.lines.specs.Places.{without}
-use Rattle.lines.proofs.Places.{total_none, total_part, within_part, without_span}
+use Rattle.lines.proofs.Places.{total_none, total_part, without_span}
 use Rattle.lines.proofs.Whole.{one_row}
 use native.Mathlib.Omega.{arith}
 use Rattle.restoring.proofs.add_total.Goals as goal
@@ -17,21 +17,6 @@ pub add_places-n-requires : goal.add_places-n-requires
 add_places-n-requires c =
     let p = c.requires in
     (omega (arith, p.group, p.order), one_row p.filled p.short, record { slant = omega arith; inside = omega arith; order = p.order; within = omega arith; most = p.most; columns = omega arith })
-
-pub slice_bounds-fill_places-count : goal.slice_bounds-fill_places-count
-slice_bounds-fill_places-count c = omega (arith, c.add_places-n.ensures.most, c.add_places-n.ensures.size, c.requires.group)
-
-pub slice_bounds-fill_places-end : goal.slice_bounds-fill_places-end
-slice_bounds-fill_places-end c = omega (arith, c.add_places-n.ensures.most, c.add_places-n.ensures.size, c.requires.group)
-
-pub fill_places-requires : goal.fill_places-requires
-fill_places-requires c =
-    let a = c.args in
-    let y = c.add_places-n in
-    record {
-      room = c.requires.room;
-      within = within_part y.new.at y.result (omega (arith, y.ensures.most, y.ensures.size, c.requires.group)) a.b (length a.s.now) (y.ensures.within (length a.s.now) c.requires.cells (λ x h. absurd (omega arith)));
-    }
 
 pub returns : goal.returns
 returns c =

@@ -13,15 +13,6 @@ use Rattle.restoring.proofs.Steps.{half_band, half_cells, whole_lines, diagonal_
 use native.Mathlib.Omega.{arith}
 use Rattle.restoring.proofs.data_and_d.Goals as goal
 
-pub overflow_sub-last : goal.overflow_sub-last
-overflow_sub-last c = omega (arith, c.requires.0.laid.sized.big)
-
-pub overflow_mul-last : goal.overflow_mul-last
-overflow_mul-last c = omega (arith, last_cell c.requires.0.laid.sized 0, c.requires.0.bench)
-
-pub overflow_sub-m : goal.overflow_sub-m
-overflow_sub-m c = omega (arith, c.requires.0.laid.sized.big)
-
 pub put_rows-requires : goal.put_rows-requires
 put_rows-requires c =
     let a = c.args in
@@ -34,19 +25,6 @@ put_diagonal-requires c =
     let p = lent_lined a.bench.now c.put_rows.new.w 0 a.g.column (omega arith) (omega (arith, c.requires.0.bench)) (omega (arith, f)) c.put_rows.ensures in
     (omega (arith, c.requires.0.laid.sized.big), (half_cells c.requires.0.laid (half_whole (put_mid 0 (a.g.column - 0) a.bench.now c.put_rows.new.w) a.g.column (2 * a.g.column) (omega arith) (omega (arith, c.requires.0.bench, p.size)) (omega arith))).room, c.requires.0.laid)
 
-pub add_crossing-requires : goal.add_crossing-requires
-add_crossing-requires c =
-    let a = c.args in
-    let f = column_is a.g.m a.g.b a.g.column c.requires.0.laid.sized in
-    let p = lent_lined a.bench.now c.put_rows.new.w 0 a.g.column (omega arith) (omega (arith, c.requires.0.bench)) (omega (arith, f)) c.put_rows.ensures in
-    let w₁ = put_mid 0 (a.g.column - 0) a.bench.now c.put_rows.new.w in
-    let r₁ : Bench a.g a.s.now (length w₁) = record { laid = c.requires.0.laid; bench = p.size ∙ c.requires.0.bench } in
-    let q = last_put a.g a.s.now w₁ c.put_diagonal.new.w r₁ c.put_diagonal.ensures in
-    (omega (arith, c.requires.1, c.requires.0.laid.few), omega (arith, c.requires.0.bench, p.size, q.size), c.requires.0.laid.sized)
-
-pub overflow_sub-m-3 : goal.overflow_sub-m-3
-overflow_sub-m-3 c = omega (arith, c.requires.0.laid.sized.big)
-
 pub sum_cells-requires : goal.sum_cells-requires
 sum_cells-requires c =
     let a = c.args in
@@ -58,17 +36,6 @@ sum_cells-requires c =
       half_cells c.requires.0.laid (half_whole _ a.g.column _ (omega arith) (omega (arith, c.requires.0.bench, p.size, q.size, c.add_crossing.ensures.size)) (omega arith)),
       whole_lines a.g a.u (a.g.k + 1) a.s.now c.all_but.ensures c.requires.0.laid (omega arith) (omega (arith, c.requires.0.laid.sized.big)),
     )
-
-pub add_turned_within-requires : goal.add_turned_within-requires
-add_turned_within-requires c =
-    let a = c.args in
-    let f = column_is a.g.m a.g.b a.g.column c.requires.0.laid.sized in
-    let p = lent_lined a.bench.now c.put_rows.new.w 0 a.g.column (omega arith) (omega (arith, c.requires.0.bench)) (omega (arith, f)) c.put_rows.ensures in
-    let w₁ = put_mid 0 (a.g.column - 0) a.bench.now c.put_rows.new.w in
-    let r₁ : Bench a.g a.s.now (length w₁) = record { laid = c.requires.0.laid; bench = p.size ∙ c.requires.0.bench } in
-    let q = last_put a.g a.s.now w₁ c.put_diagonal.new.w r₁ c.put_diagonal.ensures in
-    let o = lent_lined _ c.sum_cells.new.w a.g.column _ (omega arith) (omega (arith, c.requires.0.bench, p.size, q.size, c.add_crossing.ensures.size)) (omega (arith, f)) c.sum_cells.ensures in
-    (omega (arith, c.requires.0.bench, p.size, q.size, c.add_crossing.ensures.size, o.size), omega arith, omega (arith, c.requires.1, c.requires.0.laid.few), c.requires.0.laid.sized)
 
 pub returns : goal.returns
 returns c =

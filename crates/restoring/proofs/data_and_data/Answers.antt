@@ -5,20 +5,8 @@ use Rattle.parity.specs.Sum.{sum}
 use Rattle.parity.specs.Stripe.{lane}
 use Rattle.lines.specs.Lines.{span}
 use Rattle.restoring.specs.Left.{diagonal_left}
-use Rattle.restoring.proofs.Bench.{half_whole}
 use Rattle.restoring.proofs.Steps.{last_put, last_bench, last_is, parted_from, restored_anew, walked}
-use native.Mathlib.Omega.{arith}
 use Rattle.restoring.proofs.data_and_data.Goals as goal
-
-pub put_total-requires : goal.put_total-requires
-put_total-requires c =
-    let a = c.args in
-    (half_whole a.bench.now a.g.column _ (omega arith) (omega (arith, c.requires.0.bench)) (omega arith), c.requires.0.laid)
-
-pub put_both-requires : goal.put_both-requires
-put_both-requires c =
-    let a = c.args in
-    (omega (arith, c.requires.3, c.requires.0.laid.few), last_bench a.g a.s.now a.bench.now c.put_total.new.half c.requires.0 c.put_total.ensures)
 
 pub returns : goal.returns
 returns c =

@@ -12,9 +12,6 @@ one_back : (m u : ℕ) → back m u 1 ≡ (m - 1 + u) % m
 unfolding back
 one_back m u = let e : u + (m - 1) ≡ m - 1 + u = omega arith in ap (λ (x : ℕ). x % m) e
 
-pub overflow_sub-m : goal.overflow_sub-m
-overflow_sub-m c = omega (arith, c.requires.0.laid.sized.big)
-
 pub put_diagonals-requires : goal.put_diagonals-requires
 put_diagonals-requires c =
     let a = c.args in (
@@ -23,22 +20,11 @@ put_diagonals-requires c =
       half_band c.requires.0.laid (half_whole a.bench.now 0 a.g.column (omega arith) (omega (arith, c.requires.0.bench)) (omega arith)),
     )
 
-pub overflow_sub-m-2 : goal.overflow_sub-m-2
-overflow_sub-m-2 c = omega (arith, c.requires.0.laid.sized.big)
-
 pub put_rows-requires : goal.put_rows-requires
 put_rows-requires c =
     let a = c.args in
     let p = lent_lined a.bench.now c.put_diagonals.new.w 0 a.g.column (omega arith) (omega (arith, c.requires.0.bench)) (omega (arith, column_is a.g.m a.g.b a.g.column c.requires.0.laid.sized)) c.put_diagonals.ensures in
     (omega (arith, c.requires.0.laid.sized.big), half_band c.requires.0.laid (half_whole _ a.g.column _ (omega arith) (omega (arith, c.requires.0.bench, p.size)) (omega arith)))
-
-pub add_within-requires : goal.add_within-requires
-add_within-requires c =
-    let a = c.args in
-    let f = column_is a.g.m a.g.b a.g.column c.requires.0.laid.sized in
-    let p = lent_lined a.bench.now c.put_diagonals.new.w 0 a.g.column (omega arith) (omega (arith, c.requires.0.bench)) (omega (arith, f)) c.put_diagonals.ensures in
-    let q = lent_lined _ c.put_rows.new.w a.g.column _ (omega arith) (omega (arith, c.requires.0.bench, p.size)) (omega (arith, f)) c.put_rows.ensures in
-    (omega (arith, c.requires.0.bench, p.size, q.size), omega (arith, c.requires.0.bench, p.size, q.size), λ h. omega arith)
 
 pub returns : goal.returns
 returns c =

@@ -2,28 +2,16 @@
 use Prim.Native.Nat.{◌+◌, ◌*◌, ◌-◌, ◌%◌}
 use borrow.Rule.Slice.PartMut.{put_mid}
 use Rattle.parity.specs.Stripe.{lane}
-use Rattle.lines.proofs.Turned.{last_cell}
 use Rattle.restoring.specs.Left.{diagonal_left}
 use Rattle.restoring.proofs.Bench.{half_whole}
 use Rattle.restoring.proofs.Steps.{half_cells, last_put, last_bench, last_is, parted_from, restored_anew, h_d}
 use native.Mathlib.Omega.{arith}
 use Rattle.restoring.proofs.h_and_d.Goals as goal
 
-pub overflow_sub-m-2 : goal.overflow_sub-m-2
-overflow_sub-m-2 c = omega (arith, c.requires.laid.sized.big)
-
-pub overflow_mul-m : goal.overflow_mul-m
-overflow_mul-m c = omega (arith, last_cell c.requires.laid.sized 0, c.requires.bench)
-
 pub put_diagonal-requires : goal.put_diagonal-requires
 put_diagonal-requires c =
     let a = c.args in
     (omega (arith, c.requires.laid.sized.big), (half_cells c.requires.laid (half_whole a.bench.now a.g.column (2 * a.g.column) (omega arith) (omega (arith, c.requires.bench)) (omega arith))).room, c.requires.laid)
-
-pub put_both-requires : goal.put_both-requires
-put_both-requires c =
-    let a = c.args in
-    (omega (arith, c.requires.laid.sized.big), last_bench a.g a.s.now a.bench.now c.put_diagonal.new.w c.requires c.put_diagonal.ensures)
 
 pub returns : goal.returns
 returns c =

@@ -7,17 +7,6 @@ use Rattle.restoring.proofs.Bench.{lined_after}
 use native.Mathlib.Omega.{arith}
 use Rattle.restoring.proofs.put_diagonals.Goals as goal
 
-pub overflow_sub-last : goal.overflow_sub-last
-overflow_sub-last c = omega (arith, c.requires.2.some)
-
-pub overflow_mul-last : goal.overflow_mul-last
-overflow_mul-last c = omega (arith, band_last c.requires.2)
-
-pub put_diagonal-requires : goal.put_diagonal-requires
-put_diagonal-requires c =
-    let p = c.requires in
-    (p.0, omega (arith, band_last p.2), p.2.laid)
-
 pub sum_cells-requires : goal.sum_cells-requires
 sum_cells-requires c =
     let a = c.args in

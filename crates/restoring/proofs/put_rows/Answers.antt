@@ -11,18 +11,6 @@ use Rattle.restoring.proofs.Bench.{lined_after}
 use native.Mathlib.Omega.{arith}
 use Rattle.restoring.proofs.put_rows.Goals as goal
 
-pub overflow_sub-last : goal.overflow_sub-last
-overflow_sub-last c = omega (arith, c.requires.1.some)
-
-pub overflow_mul-last : goal.overflow_mul-last
-overflow_mul-last c = omega (arith, band_last c.requires.1)
-
-pub slice_bounds-zero-count : goal.slice_bounds-zero-count
-slice_bounds-zero-count c = omega (arith, band_last c.requires.1)
-
-pub slice_bounds-zero-start : goal.slice_bounds-zero-start
-slice_bounds-zero-start c = omega (arith, band_last c.requires.1)
-
 pub sum_cells-requires : goal.sum_cells-requires
 sum_cells-requires c =
     let a = c.args in

@@ -10,9 +10,6 @@ use Rattle.restoring.proofs.Totals.{two_sum, both_columns}
 use native.Mathlib.Omega.{arith}
 use Rattle.restoring.proofs.put_total.Goals as goal
 
-pub overflow_mul-g-2 : goal.overflow_mul-g-2
-overflow_mul-g-2 c = omega (arith, last_cell c.requires.1.sized 0, c.requires.0)
-
 pub total_cells-requires : goal.total_cells-requires
 total_cells-requires c =
     let a = c.args in

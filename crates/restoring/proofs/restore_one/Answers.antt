@@ -4,9 +4,6 @@ use Rattle.restoring.proofs.Bench.{one_restored, half_whole}
 use native.Mathlib.Omega.{arith}
 use Rattle.restoring.proofs.restore_one.Goals as goal
 
-pub overflow_sub-g : goal.overflow_sub-g
-overflow_sub-g c = omega (arith, c.requires.0.sized.big)
-
 pub restore_rows-requires : goal.restore_rows-requires
 restore_rows-requires c =
     let a = c.args in

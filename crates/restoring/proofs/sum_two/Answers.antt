@@ -2,26 +2,13 @@
 use Rattle.restoring.proofs.Bench.{half_whole, lent_lined}
 use Rattle.restoring.proofs.Steps.{half_cells, both_summed}
 use Rattle.lines.proofs.Lines.{column_is}
-use Rattle.lines.proofs.Turned.{last_cell}
 use native.Mathlib.Omega.{arith}
 use Rattle.restoring.proofs.sum_two.Goals as goal
-
-pub overflow_sub-last : goal.overflow_sub-last
-overflow_sub-last c = omega (arith, c.requires.laid.sized.big)
-
-pub overflow_mul-last : goal.overflow_mul-last
-overflow_mul-last c = omega (arith, last_cell c.requires.laid.sized 0, c.requires.bench)
-
-pub overflow_sub-m : goal.overflow_sub-m
-overflow_sub-m c = omega (arith, c.requires.laid.sized.big)
 
 pub sum_lines-requires : goal.sum_lines-requires
 sum_lines-requires c =
     let p = c.requires in
     (half_cells p.laid (half_whole c.args.bench.now 0 c.args.g.column (omega arith) (omega (arith, p.bench)) (omega arith)), record { laid = p.laid; slant = omega arith; shift = omega (arith, p.laid.sized.big); order = p.order; most = p.most; group = p.group })
-
-pub overflow_sub-m-2 : goal.overflow_sub-m-2
-overflow_sub-m-2 c = omega (arith, c.requires.laid.sized.big)
 
 pub sum_lines-requires-2 : goal.sum_lines-requires-2
 sum_lines-requires-2 c =

@@ -10,32 +10,6 @@ use Rattle.rewriting.proofs.Rewrites.{band_end, band_copied}
 use native.Mathlib.Omega.{arith}
 use Rattle.rewriting.proofs.rewrite_band.Goals as goal
 
-pub restore_rows-requires : goal.restore_rows-requires
-restore_rows-requires c =
-    let p = c.requires.3 in
-    let size = c.args.n * c.args.g.b in
-    (omega (arith, c.requires.0), c.requires.1, record { laid = p.laid; some = p.some; room = half_whole c.args.room.now 0 size (omega arith) c.requires.2 (omega arith); short = p.short })
-
-pub overflow_mul-at : goal.overflow_mul-at
-overflow_mul-at c =
-    let a = c.args in
-    omega (arith, band_end c.requires.3.laid a.u a.first a.n c.requires.1 c.requires.0)
-
-pub overflow_mul-at-2 : goal.overflow_mul-at-2
-overflow_mul-at-2 c =
-    let a = c.args in
-    omega (arith, band_end c.requires.3.laid a.u a.first a.n c.requires.1 c.requires.0)
-
-pub overflow_add-at : goal.overflow_add-at
-overflow_add-at c =
-    let a = c.args in
-    omega (arith, band_end c.requires.3.laid a.u a.first a.n c.requires.1 c.requires.0)
-
-pub overflow_add-at-2 : goal.overflow_add-at-2
-overflow_add-at-2 c =
-    let a = c.args in
-    omega (arith, band_end c.requires.3.laid a.u a.first a.n c.requires.1 c.requires.0)
-
 pub slice_bounds-copy_into-end : goal.slice_bounds-copy_into-end
 slice_bounds-copy_into-end c =
     let a = c.args in

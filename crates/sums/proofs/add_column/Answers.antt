@@ -21,12 +21,6 @@ returns-then-t-columns-2 c =
     let a = c.args in
     grown_none _ _ _ a.half.now _ (λ r l. without_second a.g.m a.columns.u a.columns.v (lane a.g.m a.g.b a.s.now l) (back a.g.m ((r + a.shift) % a.g.m) (a.slant * a.t)) a.t c.if-t-columns-2.true)
 
-pub overflow_mul-slant : goal.overflow_mul-slant
-overflow_mul-slant c = omega (arith, c.requires.reached, c.requires.sized.few)
-
-pub row_above-requires : goal.row_above-requires
-row_above-requires c = (c.requires.reached, omega (arith, c.requires.shift), c.requires.sized.few)
-
 pub add_turned-requires : goal.add_turned-requires
 add_turned-requires c =
     let a = c.args in

@@ -8,15 +8,6 @@ use Rattle.lines.specs.Places.{total}
 use native.Mathlib.Omega.{arith}
 use Rattle.sums.proofs.fill_part.Goals as goal
 
-pub overflow_add-seed : goal.overflow_add-seed
-overflow_add-seed c = omega (arith, c.requires.room.near, c.requires.room.inside)
-
-pub take-requires : goal.take-requires
-take-requires c = λ h. omega (arith, c.requires.room.whole (omega arith))
-
-pub add_cells-requires : goal.add_cells-requires
-add_cells-requires c = λ x h. omega (arith, c.requires.within x h, c.take.ensures.size)
-
 pub returns : goal.returns
 returns c =
     let a = c.args in

@@ -1,29 +1,22 @@
--- `sums::fill_places` meets its contract: the blocks, the smaller blocks, and then the lanes that are left.
-use mathlib.Core.Path.{◌∙◌}
-use Prim.Native.Nat.{◌-◌}
+-- `sums::fill_places` meets its contract: the blocks, smaller and smaller, down to single lanes.
+use Prim.Native.Nat.{◌+◌, ◌-◌}
+use Rattle.cells.specs.Runs.{Put}
 use Rattle.cells.proofs.Puts.{put_count}
-use Rattle.sums.proofs.Fillings.{filling_part, fill_more}
+use Rattle.sums.specs.Sums.{filled}
+use Rattle.sums.proofs.Fillings.{fill_next, fill_all}
+use borrow.Author.Rules.{rules}
 use native.Mathlib.Omega.{arith}
 use Rattle.sums.proofs.fill_places.Goals as goal
-
-pub fill_small-j-requires : goal.fill_small-j-requires
-fill_small-j-requires c =
-    let q = c.fill_eight-x.ensures in
-    (q.0, filling_part c.requires _ _ (omega arith) q.1.size)
-
-pub fill_rest-requires : goal.fill_rest-requires
-fill_rest-requires c =
-    let q = c.fill_eight-x.ensures in
-    let r = c.fill_small-j.ensures in
-    (r.1, r.2, filling_part c.requires _ _ (omega arith) (r.3.size ∙ q.1.size))
 
 pub returns : goal.returns
 returns c =
     let a = c.args in
-    let q = c.fill_eight-x in
-    let r = c.fill_small-j in
-    let w = a.w.now in
-    let u = r.new.w in
-    put_count (fill_more a.seed a.s.now a.at.now c.requires.room.later w u c.fill_rest.new.w r.result (a.b - r.result)
-    (put_count (fill_more a.seed a.s.now a.at.now c.requires.room.later w q.new.w u q.result (r.result - q.result) q.ensures.1 r.ensures.3) (omega (arith, r.ensures.0)))
-    c.fill_rest.ensures) (omega (arith, r.ensures.1))
+    let x = c.fill_eight-x in
+    let y = c.fill_by-y in
+    let z = c.fill_by-z in
+    let u = c.fill_by in
+    let next = fill_next a.seed a.s.now a.at.now c.requires.room.later a.w.now in
+    let first : Put a.w.now x.new.w (a.to + 0) (x.result - 0) (λ l. filled a.w.now a.seed a.s.now a.at.now (0 + l)) = search rules in
+    let second = next x.new.w y.new.w 0 x.result y.result (omega arith) y.ensures.0 first y.ensures.3 in
+    let third = next y.new.w z.new.w 0 y.result z.result (omega arith) z.ensures.0 second z.ensures.3 in
+    put_count (fill_all (next z.new.w u.new.w 0 z.result u.result (omega arith) u.ensures.0 third u.ensures.3)) (omega (arith, u.ensures.1, u.ensures.2))

@@ -2,7 +2,7 @@
 use mathlib.Core.Path.{◌≡◌, sym, ap, ap₂, ◌∙◌, subst}
 use Prim.Native.Nat.{ℕ, ◌+◌, ◌*◌, ◌-◌, ◌%◌}
 use native.Mathlib.Nat.{mod-lt}
-use lib.ListN.{length, get_or}
+use lib.ListN.{get_or}
 use Rattle.parity.specs.Xor.{◌⊕◌}
 use Rattle.parity.proofs.Xor.{⊕_assoc}
 use Rattle.lines.specs.declared.Columns.{Columns}
@@ -12,15 +12,10 @@ use Rattle.lines.specs.Rows.{Lined}
 use Rattle.lines.proofs.Places.{window_start, window_next}
 use Rattle.lines.proofs.Amounts.{cell_span}
 use Rattle.lines.proofs.Rows.{lined_same, lined_grown}
-use Rattle.lines.proofs.Whole.{row_crosses}
-use Rattle.sums.specs.Sums.{lane_of, span_of, Half}
-use Rattle.sums.proofs.Sweeps.{begun_first, begun_next, lines_cross}
+use Rattle.sums.specs.Sums.{lane_of, span_of}
+use Rattle.sums.proofs.Sweeps.{begun_first, begun_next}
 use native.Mathlib.Omega.{arith}
 use Rattle.sums.proofs.lines_by_columns.Goals as goal
-
-pub add_columns-requires : goal.add_columns-requires
-add_columns-requires c =
-    record { sized = c.requires.1.laid.sized; whole = c.requires.0; shift = c.requires.1.shift; crosses = lines_cross c.requires.1.laid c.requires.1.slant (omega (arith, c.requires.1.shift)) c.requires.1.order c.requires.1.most }
 
 pub returns-then-columns-ne0 : goal.returns-then-columns-ne0
 returns-then-columns-ne0 c =
@@ -30,35 +25,6 @@ returns-then-columns-ne0 c =
     let e : 0 + (r * a.g.b + l) ≡ r * a.g.b + l = omega arith in
     ap₂ ◌⊕◌ (ap (λ (x : ℕ). get_or a.half.now x 0) e ∙ sym (begun_next a.columns ((a.g.m - 2) * a.g.b) (r * a.g.b) l a.half.now h))
     (sym (window_next a.g.m a.g.k (lane_of a.g a.s.now a.columns l) a.slant ((r + a.shift) % a.g.m) a.columns.from a.columns.to h)))
-
-pub overflow_add-end : goal.overflow_add-end
-overflow_add-end c = omega (arith, c.requires.1.laid.few, c.requires.1.laid.sized.few, c.requires.1.slant)
-
-pub repeat_last-requires : goal.repeat_last-requires
-repeat_last-requires c = (c.requires.0, c.requires.1.laid.sized)
-
-pub overflow_add-end-2 : goal.overflow_add-end-2
-overflow_add-end-2 c = omega (arith, c.requires.1.laid.few, c.requires.1.laid.sized.few, c.requires.1.slant)
-
-pub add_columns-requires-2 : goal.add_columns-requires-2
-add_columns-requires-2 c =
-    let a = c.args in
-    let y = c.repeat_last in
-    subst (λ (x : Columns). Half a.g a.s.now (length y.new.half) 0 a.shift x) (sym c.part_of.ensures) (record {
-      sized = c.requires.1.laid.sized;
-      whole = omega (arith, c.requires.0, y.ensures.size);
-      shift = c.requires.1.shift;
-      crosses = row_crosses c.requires.1.laid.sized c.requires.1.laid.few c.requires.1.laid.whole (omega (arith, c.requires.1.shift)) (omega arith) (omega (arith, c.requires.1.slant));
-    })
-
-pub add_columns-requires-3 : goal.add_columns-requires-3
-add_columns-requires-3 c =
-    record {
-      sized = c.requires.1.laid.sized;
-      whole = omega (arith, c.requires.0, c.repeat_last.ensures.size, c.add_columns-2.ensures.size);
-      shift = c.requires.1.shift;
-      crosses = lines_cross c.requires.1.laid c.requires.1.slant (omega (arith, c.requires.1.shift)) c.requires.1.order c.requires.1.most;
-    }
 
 pub returns : goal.returns
 returns c =

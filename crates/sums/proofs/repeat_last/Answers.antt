@@ -6,17 +6,8 @@ use Rattle.sums.proofs.Sweeps.{repeated}
 use native.Mathlib.Omega.{arith}
 use Rattle.sums.proofs.repeat_last.Goals as goal
 
-pub overflow_mul-last : goal.overflow_mul-last
-overflow_mul-last c = omega (arith, last_cell c.requires.1 0, c.requires.0)
-
 pub slice_bounds-zero-end : goal.slice_bounds-zero-end
 slice_bounds-zero-end c = omega (arith, last_cell c.requires.1 0, c.requires.0)
-
-pub spread-requires : goal.spread-requires
-spread-requires c =
-    let a = c.args in
-    let e = last_cell c.requires.1 0 in
-    (omega (arith, c.requires.0, (put_cleared a.half.now c.zero.new.acc 0 ((a.g.m - 2) * a.g.b) (omega arith) (omega (arith, c.requires.0)) c.zero.ensures).size), c.requires.1)
 
 pub returns : goal.returns
 returns c =

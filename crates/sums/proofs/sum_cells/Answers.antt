@@ -1,55 +1,33 @@
 -- `sums::sum_cells` meets its contract. The invariant: the columns below t are summed.
-use mathlib.Core.Path.{◌≡◌, sym, subst}
+use mathlib.Core.Path.{◌≡◌, subst}
 use Prim.Native.Nat.{◌+◌, ◌*◌, ◌%◌}
 use lib.ListN.{get_or}
 use Rattle.parity.specs.Xor.{◌⊕◌}
 use Rattle.lines.specs.declared.Columns.{Columns}
 use Rattle.lines.specs.Rows.{Lined}
-use Rattle.sums.specs.Sums.{begun, window_of, SomeColumns}
-use Rattle.sums.proofs.Sweeps.{same_cells, all_of, in_cells_begin, in_cells_next}
+use Rattle.sums.specs.Sums.{begun, window_of}
+use Rattle.sums.proofs.Sweeps.{InCells, in_cells_next, over, over_join, all_of}
 use native.Mathlib.Omega.{arith}
 use Rattle.sums.proofs.sum_cells.Goals as goal
+use Rattle.sums.proofs.sum_cells.Goals.{After-sum_lines}
 
-pub loop-t-init : goal.loop-t-init
-loop-t-init c =
-    let a = c.args in
-    (omega arith, in_cells_begin a.g a.s.now a.slant a.columns.u a.columns.v a.n a.shift a.seed a.w.now)
-
-pub group_end-e-requires : goal.group_end-e-requires
-group_end-e-requires c =
-    (c.loop-t-test.true, omega (arith, c.requires.1.most, c.requires.1.laid.few, c.requires.1.laid.sized.few))
-
-pub sum_lines-requires : goal.sum_lines-requires
-sum_lines-requires c =
+summed : (c : After-sum_lines) → let a = c.args in
+    InCells a.n a.g.b a.seed (λ x y r l. window_of a.g a.s.now a.slant ((r + a.shift) % a.g.m) (over a.g a.s.now a.slant a.columns.u a.columns.v x y) l) a.w.now c.sum_lines.new.w c.min.result
+summed c =
     let a = c.args in
     let y = c.loop-t in
-    let e = c.group_end-e.ensures in
-    let p = c.requires.1 in (
-      same_cells c.requires.0 y.invariant.1.size,
-      subst (λ (x : Columns). SomeColumns a.g a.s.now a.slant a.shift x) (sym c.part_of.ensures)
-          (record { laid = p.laid; slant = p.slant; shift = p.shift; order = omega (arith, e.0); most = omega (arith, e.1, p.most); group = e.2 }),
-    )
-
-pub loop-t-smaller : goal.loop-t-smaller
-loop-t-smaller c = omega (arith, c.group_end-e.ensures.0, c.group_end-e.ensures.1)
+    in_cells_next a.n a.g.b a.seed _ (λ r. over_join a.g a.s.now a.slant a.columns.u a.columns.v ((r + a.shift) % a.g.m)) a.w.now y.w c.sum_lines.new.w
+    (over a.g a.s.now a.slant a.columns.u a.columns.v y.t c.min.result) (omega arith) y.invariant.1
+    (subst (λ (x : Columns). Lined a.n a.g.b 0 y.w c.sum_lines.new.w (λ r l. begun x y.w a.seed (r * a.g.b) l ⊕ window_of a.g a.s.now a.slant ((r + a.shift) % a.g.m) x l)) c.part_of-group.ensures c.sum_lines.ensures)
 
 pub loop-t-preserved : goal.loop-t-preserved
 loop-t-preserved c =
-    let a = c.args in
-    let y = c.loop-t in
-    let e = c.group_end-e in
-    let f = c.sum_lines in (
-      e.ensures.1,
-      in_cells_next a.g a.s.now a.slant a.columns.u a.columns.v a.n a.shift a.seed a.w.now y.w f.new.w y.t e.result e.ensures.0 y.invariant.1
-          (subst (λ (x : Columns). Lined a.n a.g.b 0 y.w f.new.w (λ r l. begun x y.w a.seed (r * a.g.b) l ⊕ window_of a.g a.s.now a.slant ((r + a.shift) % a.g.m) x l)) c.part_of.ensures f.ensures),
-    )
+    let e : c.min.result ≡ c.loop-t.t + 8 = omega arith in
+    (omega arith, rw (← e) (summed (goal.at.loop-t-preserved c).After-sum_lines))
 
-pub shape_of-w : goal.shape_of-w
-shape_of-w c = c.loop-t.invariant.1.size
-
-pub returns : goal.returns
-returns c =
+pub returns-2 : goal.returns-2
+returns-2 c =
     let a = c.args in
-    let y = c.loop-t in
-    let e : y.t ≡ a.columns.to = omega (arith, y.invariant.0, c.loop-t-test.false) in
-    subst (λ (x : Columns). Lined a.n a.g.b 0 a.w.now y.w (λ r l. get_or a.w.now (a.seed + l) 0 ⊕ window_of a.g a.s.now a.slant ((r + a.shift) % a.g.m) x l)) (all_of a.columns c.requires.1.first e) (y.invariant.1.some (λ h. absurd (omega (arith, c.requires.1.some))))
+    let done = summed (goal.at.returns-2 c).After-sum_lines in
+    subst (λ (x : Columns). Lined a.n a.g.b 0 a.w.now c.sum_lines.new.w (λ r l. get_or a.w.now (a.seed + l) 0 ⊕ window_of a.g a.s.now a.slant ((r + a.shift) % a.g.m) x l))
+    (all_of a.columns c.requires.1.first (omega arith)) (done.some (λ z. absurd (omega arith)))

@@ -1,6 +1,5 @@
 -- `changing::change_and_pay` meets its contract: at first nothing is owed, and in the end it is paid, or is nothing.
 use mathlib.Core.Path.{◌∙◌}
-use borrow.Author.Tests.{not-false}
 use Rattle.lines.proofs.Lines.{laid_kept}
 use Rattle.changing.proofs.Owed.{paid_none}
 use Rattle.changing.proofs.many_cells.change_and_pay.Goals as goal

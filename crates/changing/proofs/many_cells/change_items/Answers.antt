@@ -1,5 +1,5 @@
 -- `changing::change_items` meets its contract. The invariant: once paid, the first n items are changed.
-use mathlib.Core.Path.{refl, subst, ◌∙◌}
+use mathlib.Core.Path.{subst, ◌∙◌}
 use Prim.Native.Nat.{ℕ}
 use native.Mathlib.Omega.{arith}
 use Rattle.parity.specs.Change.{CellsChanged}
@@ -12,7 +12,7 @@ use Rattle.changing.proofs.Owed.{once_none}
 use Rattle.changing.proofs.many_cells.change_items.Goals as goal
 
 pub loop-n-init : goal.loop-n-init
-loop-n-init c = (refl, omega arith, once_none c.requires.0 c.args.owed.now _ (λ v. no_step _ v))
+loop-n-init c = once_none c.requires.0 c.args.owed.now _ (λ v. no_step _ v)
 
 pub overflow_mul-at : goal.overflow_mul-at
 overflow_mul-at c =
@@ -34,26 +34,17 @@ change_item-requires c =
     let y = c.loop-n in
     let taken = c.loop-n-test.true in
     let (column, row) = c.requires.2.inside y.n taken in
-    (laid_kept y.invariant.2.size c.requires.0, y.invariant.2.room ∙ c.requires.1, column, row, part_size c.args.cells.now _ c.args.g.b (omega (arith, item_within c.requires.2 y.n taken)))
+    (laid_kept y.invariant.size c.requires.0, y.invariant.room ∙ c.requires.1, column, row, part_size c.args.cells.now _ c.args.g.b (omega (arith, item_within c.requires.2 y.n taken)))
 
 pub loop-n-preserved : goal.loop-n-preserved
 loop-n-preserved c =
     let a = c.args in
-    let y = c.loop-n in (
-      refl,
-      omega (arith, c.loop-n-test.true),
-      changed_next (laid_kept y.invariant.2.size c.requires.0) a.columns.now a.rows.now a.cells.now y.n y.invariant.2 c.change_item.ensures,
-    )
-
-pub shape_of-s : goal.shape_of-s
-shape_of-s c = c.loop-n.invariant.2.size
-
-pub shape_of-owed : goal.shape_of-owed
-shape_of-owed c = c.loop-n.invariant.2.room
+    let y = c.loop-n in
+    changed_next (laid_kept y.invariant.size c.requires.0) a.columns.now a.rows.now a.cells.now y.n y.invariant c.change_item.ensures
 
 pub returns : goal.returns
 returns c =
     let a = c.args in
     let y = c.loop-n in
     subst (λ (n : ℕ). OncePaid a.g.m a.g.k a.g.b a.owed.now a.s.now y.owed y.s (CellsChanged a.g.m a.g.k a.g.b a.columns.now a.rows.now a.cells.now n))
-    (omega (arith, y.invariant.1, c.loop-n-test.false)) y.invariant.2
+    (omega (arith, c.loop-n-test.false)) y.invariant

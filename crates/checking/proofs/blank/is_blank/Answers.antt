@@ -1,6 +1,5 @@
 -- `checking::blank::is_blank` meets its contract: a list is zeros exactly when what stands before a place is, and what stands from there on.
 use mathlib.Core.Path.{◌≡◌, sym, ap, ◌∙◌}
-use mathlib.Core.Bool.{true≢false}
 use mathlib.Core.List.{List}
 use Prim.Native.Nat.{ℕ, ◌+◌, ◌-◌, ◌≤◌}
 use native.Mathlib.Omega.{arith}
@@ -27,10 +26,3 @@ returns-then-is_zero c = (
   λ e. part_zeros c.args.parity c.requires (c.is_zero.ensures.0 c.if-is_zero.true) (c.is_zero-then-is_zero.ensures.0 e),
   λ all. c.is_zero-then-is_zero.ensures.1 (zeros_part 0 c.args.parity all),
 )
-
-pub returns : goal.returns
-returns c =
-    let a = c.args in (
-      λ e. absurd (true≢false (sym e)),
-      λ all. absurd (true≢false (sym (c.is_zero.ensures.1 (zeros_part a.parity (length a.stripe.now) all)) ∙ c.if-is_zero.false)),
-    )

@@ -12,6 +12,3 @@ invariant-loop-first it =
     (length it.at ≡ length it.initial.at) × (length it.w ≡ length it.initial.w) × (it.first ≤ it.g.m - 1)
     × ((l : ℕ) → l < it.g.b → get_or it.w (it.seed + l) 0 ≡ get_or it.initial.w (it.seed + l) 0)
     × Found it.enough it.first it.g.b (λ l d. get_or it.initial.w (it.seed + l) 0 ⊕ test_line it.g it.s it.u d l) (seen it.count it.last)
-
-abbrev pub decreases-loop-first : goal.decreases-loop-first
-decreases-loop-first l = l.g.m - 1 - l.first

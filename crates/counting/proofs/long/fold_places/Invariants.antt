@@ -1,6 +1,6 @@
 -- `counting::long::fold_places` meets its contract. The invariant: o has gathered the lanes before j. The last block may gather some of them again.
 use mathlib.Core.Path.{◌≡◌}
-use Prim.Native.Nat.{◌-◌, ◌≤◌}
+use Prim.Native.Nat.{◌≤◌}
 use lib.ListN.{length, get_or}
 use Rattle.parity.specs.Xor.{◌⊕◌}
 use Rattle.lines.specs.Places.{total}
@@ -9,7 +9,4 @@ use Rattle.counting.proofs.long.fold_places.Given as goal
 
 abbrev pub invariant-loop-j : goal.invariant-loop-j
 invariant-loop-j it =
-    (it.last ≡ it.b - 128) × (it.j ≤ it.b) × (length it.acc ≡ 128) × (length it.o ≡ 16) × Gathered it.initial.o it.o it.j (λ l. get_or it.seed l 0 ⊕ total it.at (length it.at) it.s l)
-
-abbrev pub decreases-loop-j : goal.decreases-loop-j
-decreases-loop-j l = l.b - l.j
+    (it.j ≤ it.b) × (length it.acc ≡ 128) × (length it.o ≡ 16) × Gathered it.initial.o it.o it.j (λ l. get_or it.seed l 0 ⊕ total it.at (length it.at) it.s l)

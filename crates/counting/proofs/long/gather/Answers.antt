@@ -3,14 +3,11 @@ use mathlib.Core.Path.{◌≡◌, ap, subst}
 use Prim.Native.Nat.{ℕ, ◌+◌}
 use lib.ListN.{get_or, set}
 use Rattle.cells.specs.Runs.{Put}
-use Rattle.cells.proofs.Puts.{put_none, put_one, put_count}
+use Rattle.cells.proofs.Puts.{put_one, put_count}
 use Rattle.counting.proofs.Gathers.{ored, gathered_parts}
 use borrow.Author.Rules.{rules}
 use native.Mathlib.Omega.{arith}
 use Rattle.counting.proofs.long.gather.Goals as goal
-
-pub loop-j-init : goal.loop-j-init
-loop-j-init c = (search rules, search rules, put_none c.args.o.now 0 _)
 
 pub loop-j-preserved : goal.loop-j-preserved
 unfolding ored
@@ -26,9 +23,6 @@ loop-j-preserved c =
       subst (λ (n : ℕ). Put x (set o n (ored (get_or o j 0) y j 7)) 0 (j + 1) (λ l. ored (get_or x l 0) y l 7)) e
           (put_one x o 0 j (ored (get_or o j 0) y j 7) (λ l. ored (get_or x l 0) y l 7) (omega arith) (ap (λ (v : ℕ). ored v y j 7) (p.after j (omega arith))) p),
     )
-
-pub shape_of-o : goal.shape_of-o
-shape_of-o c = c.loop-j.invariant.2.size
 
 pub returns : goal.returns
 returns c =

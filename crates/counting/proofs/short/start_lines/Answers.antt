@@ -7,7 +7,6 @@ use Rattle.lines.proofs.Lines.{column_is}
 use Rattle.lines.proofs.Rows.{lined_same, run_rows}
 use Rattle.lines.proofs.Turned.{last_cell}
 use Rattle.counting.proofs.Buts.{but_last}
-use Rattle.counting.proofs.Wholes.{repeated_last}
 use native.Mathlib.Omega.{arith}
 use Rattle.counting.proofs.short.start_lines.Goals as goal
 
@@ -17,12 +16,6 @@ returns-then-g-u c =
     let e : length a.w.now ≡ (a.g.m - 1) * a.g.b = omega (arith, c.requires.whole, column_is a.g.m a.g.b a.g.column c.requires.laid.sized) in
     lined_same (run_rows e c.zero.ensures) (λ r l _ _. sym (but_last a.g.m a.g.k c.requires.laid.sized.big c.requires.laid.few (lane a.g.m a.g.b a.s.now l) a.u c.if-g-u.true))
 
-pub overflow_mul-last : goal.overflow_mul-last
-overflow_mul-last c = omega (arith, last_cell c.requires.laid.sized 0, c.requires.whole)
-
 pub sum_last-requires : goal.sum_last-requires
 sum_last-requires c =
     (omega (arith, last_cell c.requires.laid.sized 0, c.requires.whole), c.requires.places, c.requires.laid)
-
-pub returns : goal.returns
-returns c = repeated_last c.requires.laid.sized c.sum_last.ensures c.repeat_last.ensures

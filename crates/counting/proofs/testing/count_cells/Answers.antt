@@ -1,12 +1,10 @@
 -- `counting::testing::count_cells` meets its contract. The invariant: what was found of the cells before r. Where all bytes are zero, no cell is set.
-use mathlib.Core.Path.{◌≡◌, sym, ap, ◌∙◌, subst}
-use mathlib.Core.Logic.{⊎_elim}
+use mathlib.Core.Path.{◌≡◌, sym, ap, ◌∙◌}
 use Prim.Native.Nat.{ℕ, ◌+◌, ◌*◌}
 use lib.ListN.{get_or}
 use Rattle.cells.proofs.Parts.{part_at, parts_end}
 use Rattle.lines.proofs.Places.{part_length}
-use Rattle.counting.specs.Counting.{Found}
-use Rattle.counting.proofs.Found.{seen, found_begin, found_clear, found_same, found_more, found_as, found_enough}
+use Rattle.counting.proofs.Found.{found_begin, found_clear, found_same, found_more, found_as, found_enough}
 use Rattle.counting.proofs.Bands.{tells_part}
 use borrow.Author.Rules.{rules}
 use native.Mathlib.Omega.{arith}
@@ -25,18 +23,6 @@ returns-then-any-eq0 c =
 
 pub loop-r-init : goal.loop-r-init
 loop-r-init c = (search rules, found_begin _ _ _)
-
-pub overflow_mul-p : goal.overflow_mul-p
-overflow_mul-p c =
-    omega (arith, c.requires, parts_end c.args.b c.loop-r-test.true)
-
-pub overflow_add-p : goal.overflow_add-p
-overflow_add-p c =
-    omega (arith, c.requires, parts_end c.args.b c.loop-r-test.true)
-
-pub slice_bounds-any-end-in-loop-r : goal.slice_bounds-any-end-in-loop-r
-slice_bounds-any-end-in-loop-r c =
-    omega (arith, c.requires, parts_end c.args.b c.loop-r-test.true)
 
 pub returns-then-enough-count : goal.returns-then-enough-count
 returns-then-enough-count c =
@@ -59,10 +45,3 @@ loop-r-preserved c =
       | then-any-ne0+else-enough-count w ↦ (omega arith, found_as w.count-is w.last-is (found_more a.enough a.b f y.count y.last y.r y.invariant.1 r.result t w.if-any-ne0.true))
       | else-any-ne0 w ↦ (omega arith, found_as w.count-is w.last-is (found_same a.enough a.b f y.count y.last y.r y.invariant.1 r.result t w.if-any-ne0.false))
     ])
-
-pub returns : goal.returns
-returns c =
-    let y = c.loop-r in
-    let a = c.args in
-    let e : y.r ≡ a.n = omega arith in
-    subst (λ (n : ℕ). Found a.enough n a.b (λ l r. get_or a.w.now (r * a.b + l) 0) (seen y.count y.last)) e y.invariant.1

@@ -1,30 +1,38 @@
 -- `evenodd::restores::restore` meets its contract: a law of restore for each way out, from what the tests on the way there said.
-use mathlib.Core.Path.{sym, subst}
+use mathlib.Core.Path.{subst}
 use lib.ListN.{length}
 use native.Mathlib.Omega.{arith}
 use Rattle.parity.specs.Stripe.{Stripe}
 use Rattle.inputs.proofs.Tests.{FewAbsent, gaps_good}
-use Rattle.evenodd.specs.Restores.{Restores}
-use Rattle.evenodd.proofs.RestoreLaws.{restore_refused, restore_gapped, restore_told}
+use Rattle.evenodd.specs.Fills.{FillsGaps}
+use Rattle.evenodd.proofs.RestoreLaws.{restore_gapped, restore_filled, restore_contradicted}
 use Rattle.evenodd.proofs.restores.restore.Goals as goal
+use Rattle.evenodd.proofs.restores.restore.Goals.{In_ok-column}
 
-pub returns-in_default : goal.returns-in_default
-returns-in_default c =
-    let a = c.args in
-    restore_refused a.m a.k a.b a.map a.stripe.now a.bench.now c.judge_gaps-judged.result c.judge_gaps-judged.ensures c.in_default.is c.refusal.ensures
+good : (c : In_ok-column) → let a = c.args in FewAbsent a.shape.m a.shape.k a.shape.b (length a.stripe.now) a.map (length a.bench.now) c.in_ok-column.column c.in_ok-column.gaps
+good c = gaps_good _ _ _ _ _ _ c.in_ok-column.ensures
 
-pub fill_gaps-filled-requires : goal.fill_gaps-filled-requires
-fill_gaps-filled-requires c =
-    let good : FewAbsent c.args.m c.args.k c.args.b (length c.args.stripe.now) c.args.map (length c.args.bench.now) c.in-Good.column c.in-Good.gaps = gaps_good _ _ _ _ _ _ c.judge_gaps-judged.result c.judge_gaps-judged.ensures c.in-Good.is in
+-- a stripe, of the length that was tested
+stripe : (c : In_ok-column) → Stripe c.args.shape.m c.args.shape.k c.args.shape.b c.args.stripe.now
+stripe c = record { whole = (good c).lent.numbers.stripe; bytes = λ x. omega (arith, c.type_inv.stripe x) }
+
+pub fill_gaps-requires : goal.fill_gaps-requires
+fill_gaps-requires c =
     let a = c.args in
-    restore_gapped a.m a.k a.b a.map a.stripe.now a.bench.now good
+    restore_gapped a.shape.m a.shape.k a.shape.b a.map a.stripe.now a.bench.now (good (goal.at.fill_gaps-requires c).In_ok-column)
+
+pub returns-then-not-fill_gaps : goal.returns-then-not-fill_gaps
+returns-then-not-fill_gaps c =
+    let p = (goal.at.returns-then-not-fill_gaps c).In_ok-column in
+    let a = c.args in
+    let after = c.fill_gaps.new.bench in
+    restore_contradicted a.shape.m a.shape.k a.shape.b a.map a.stripe.now a.bench.now (good p) (stripe p) after
+    (subst (FillsGaps a.shape.m a.shape.k a.shape.b c.in_ok-column.gaps a.stripe.now a.bench.now after) c.if-not-fill_gaps.true c.fill_gaps.ensures)
 
 pub returns : goal.returns
 returns c =
-    let good : FewAbsent c.args.m c.args.k c.args.b (length c.args.stripe.now) c.args.map (length c.args.bench.now) c.in-Good.column c.in-Good.gaps = gaps_good _ _ _ _ _ _ c.judge_gaps-judged.result c.judge_gaps-judged.ensures c.in-Good.is in
-    -- a stripe, of the length that was tested
-    let stripe : Stripe c.args.m c.args.k c.args.b c.args.stripe.now = record { whole = good.lent.numbers.stripe; bytes = λ x. omega (arith, c.type_inv.stripe x) } in
+    let p = (goal.at.returns c).In_ok-column in
     let a = c.args in
-    let after = c.fill_gaps-filled.new.bench in
-    subst (Restores a.m a.k a.b a.map a.stripe.now a.bench.now after) (sym c.told.ensures)
-    (restore_told a.m a.k a.b a.map a.stripe.now a.bench.now good stripe after c.fill_gaps-filled.result c.fill_gaps-filled.ensures)
+    let after = c.fill_gaps.new.bench in
+    restore_filled a.shape.m a.shape.k a.shape.b a.map a.stripe.now a.bench.now (good p) (stripe p) after
+    (subst (FillsGaps a.shape.m a.shape.k a.shape.b c.in_ok-column.gaps a.stripe.now a.bench.now after) c.if-not-fill_gaps.false c.fill_gaps.ensures)

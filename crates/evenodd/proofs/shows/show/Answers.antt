@@ -1,42 +1,29 @@
 -- `evenodd::shows::show` meets its contract: the part that is lent is the one where `place_of` says that the column lies.
 use native.Mathlib.Omega.{arith}
-use Rattle.evenodd.specs.declared.shows.Place.TheVariants.{InStripe, InBench, Refused}
+use Rattle.std.specs.Prelude.{Ok}
+use Rattle.evenodd.specs.declared.shows.Place.TheVariants.{InStripe, InBench}
 use Rattle.evenodd.specs.Shows.{Places}
-use Rattle.evenodd.proofs.Shown.{stripe_fits, bench_fits, part_of}
+use Rattle.evenodd.proofs.Shown.{stripe_fits, bench_fits}
 use Rattle.evenodd.proofs.shows.show.Goals as goal
+use Rattle.evenodd.proofs.shows.show.Goals.{In-Ok-InStripe, In-Ok-InBench}
+
+-- what the question answered, by the arm that was taken
+in_stripe : (c : In-Ok-InStripe) → let a = c.args in
+    Places a.shape.m a.shape.k a.shape.b a.map a.stripe.now a.bench.now a.column (Ok (InStripe c.in-Ok-InStripe.start c.in-Ok-InStripe.length))
+in_stripe c = rw c.in-Ok-InStripe.field-0-is at c.in-Ok-InStripe.ensures
+
+in_bench : (c : In-Ok-InBench) → let a = c.args in
+    Places a.shape.m a.shape.k a.shape.b a.map a.stripe.now a.bench.now a.column (Ok (InBench c.in-Ok-InBench.start c.in-Ok-InBench.length))
+in_bench c = rw c.in-Ok-InBench.field-0-is at c.in-Ok-InBench.ensures
 
 pub overflow_add-result : goal.overflow_add-result
-overflow_add-result c =
-    -- what the question answered, by the arm that was taken
-    let in_stripe : Places c.args.m c.args.k c.args.b c.args.map c.args.stripe.now c.args.bench.now c.args.column (InStripe c.in-InStripe.start c.in-InStripe.length) = rw c.in-InStripe.is at c.place_of.ensures in
-    omega (arith, stripe_fits in_stripe)
+overflow_add-result c = omega (arith, stripe_fits (in_stripe c))
 
 pub slice_bounds-result-end : goal.slice_bounds-result-end
-slice_bounds-result-end c =
-    -- what the question answered, by the arm that was taken
-    let in_stripe : Places c.args.m c.args.k c.args.b c.args.map c.args.stripe.now c.args.bench.now c.args.column (InStripe c.in-InStripe.start c.in-InStripe.length) = rw c.in-InStripe.is at c.place_of.ensures in
-    stripe_fits in_stripe
+slice_bounds-result-end c = stripe_fits (in_stripe c)
 
-pub overflow_add-result-in-InBench : goal.overflow_add-result-in-InBench
-overflow_add-result-in-InBench c =
-    let in_bench : Places c.args.m c.args.k c.args.b c.args.map c.args.stripe.now c.args.bench.now c.args.column (InBench c.in-InBench.start c.in-InBench.length) = rw c.in-InBench.is at c.place_of.ensures in
-    omega (arith, bench_fits in_bench)
+pub overflow_add-result-in-Ok-InBench : goal.overflow_add-result-in-Ok-InBench
+overflow_add-result-in-Ok-InBench c = omega (arith, bench_fits (in_bench c))
 
-pub slice_bounds-result-end-in-InBench : goal.slice_bounds-result-end-in-InBench
-slice_bounds-result-end-in-InBench c =
-    let in_bench : Places c.args.m c.args.k c.args.b c.args.map c.args.stripe.now c.args.bench.now c.args.column (InBench c.in-InBench.start c.in-InBench.length) = rw c.in-InBench.is at c.place_of.ensures in
-    bench_fits in_bench
-
-pub returns-in-InStripe : goal.returns-in-InStripe
-returns-in-InStripe c =
-    -- what the question answered, by the arm that was taken
-    let in_stripe : Places c.args.m c.args.k c.args.b c.args.map c.args.stripe.now c.args.bench.now c.args.column (InStripe c.in-InStripe.start c.in-InStripe.length) = rw c.in-InStripe.is at c.place_of.ensures in
-    record { answer = InStripe _ _; places = in_stripe; part = part_of _ _ _ }
-
-pub returns-in-InBench : goal.returns-in-InBench
-returns-in-InBench c =
-    let in_bench : Places c.args.m c.args.k c.args.b c.args.map c.args.stripe.now c.args.bench.now c.args.column (InBench c.in-InBench.start c.in-InBench.length) = rw c.in-InBench.is at c.place_of.ensures in
-    record { answer = InBench _ _; places = in_bench; part = part_of _ _ _ }
-
-pub returns-in-Refused : goal.returns-in-Refused
-returns-in-Refused c = record { answer = Refused _; places = rw c.in-Refused.is at c.place_of.ensures; part = part_of _ 0 0 }
+pub slice_bounds-result-end-in-Ok-InBench : goal.slice_bounds-result-end-in-Ok-InBench
+slice_bounds-result-end-in-Ok-InBench c = bench_fits (in_bench c)

@@ -1,7 +1,6 @@
 -- `image_walker::steps::find_from` meets its contract. The loop's invariant: no column from the place on and below t is present, and `start` is where the
 -- body of column t would begin.
-use mathlib.Core.Path.{◌≡◌, refl, sym, ◌∙◌}
-use mathlib.Core.Logic.{inl, inr}
+use mathlib.Core.Path.{sym, ◌∙◌}
 use borrow.Author.Rules.{rules}
 use native.Mathlib.Omega.{arith}
 use Rattle.image_walker.proofs.Finding.{before_none, before_present, before_absent, before_most, absent_none, absent_more}
@@ -10,18 +9,6 @@ use Rattle.image_walker.proofs.steps.find_from.Goals.{then-is_present+else-place
 
 pub loop-t-init : goal.loop-t-init
 loop-t-init c = (search rules, before_none _ _ _, absent_none _ _)
-
-pub returns-then-place-t : goal.returns-then-place-t
-returns-then-place-t c =
-    record {
-      order = c.if-place-t.true;
-      inside = c.loop-t-test.true;
-      there = sym c.is_present.ensures ∙ c.if-is_present.true;
-      before = c.loop-t.invariant.2;
-      begins = c.loop-t.invariant.1;
-      size = refl;
-      moved = refl;
-    }
 
 pub overflow_add-start-then-is_present : goal.overflow_add-start-then-is_present
 overflow_add-start-then-is_present c =
@@ -35,8 +22,3 @@ loop-t-preserved c =
       | then-is_present+else-place-t w ↦ (search rules, w.start-is ∙ before_present _ _ _ _ c.loop-t.invariant.1 (e ∙ w.if-is_present.true), absent_more _ _ _ c.loop-t.invariant.2 (λ p. absurd (omega (arith, w.if-place-t.false))))
       | else-is_present w ↦ let absent = e ∙ w.if-is_present.false in (search rules, w.start-is ∙ before_absent _ _ _ _ c.loop-t.invariant.1 absent, absent_more _ _ _ c.loop-t.invariant.2 (λ _. absent))
     ]
-
-pub returns : goal.returns
-returns c =
-    let e : c.loop-t.t ≡ c.args.columns = omega arith in
-    (rw e at c.loop-t.invariant.2, refl)

@@ -1,5 +1,4 @@
 -- `image_writer::pieces::put_bodies` meets its contract. The loop's invariant: the bodies of the columns below t are written.
-use mathlib.Core.Path.{◌≡◌}
 use native.Mathlib.Numerals.{add-one}
 use native.Mathlib.Omega.{arith}
 use Rattle.cells.proofs.Parts.{parts_end}
@@ -26,11 +25,3 @@ pub loop-t-preserved : goal.loop-t-preserved
 unfolding joined
 loop-t-preserved c =
     (search rules, rw add-one (wrote_then c.loop-t.invariant.1 c.put_body-next.ensures))
-
-pub shape_of-image : goal.shape_of-image
-shape_of-image c = c.loop-t.invariant.1.size
-
-pub returns : goal.returns
-returns c =
-    let e : c.loop-t.t ≡ c.args.columns = omega arith in
-    rw e at c.loop-t.invariant.1

@@ -1,16 +1,15 @@
 -- `image_writer::pieces::put_entries` meets its contract. The loop's invariant: the entries of the columns below t are written, and the next body begins after theirs.
-use mathlib.Core.Path.{◌≡◌, sym, ap, ap₂, ◌∙◌}
-use mathlib.Core.Logic.{⊎_elim}
+use mathlib.Core.Path.{sym, ap, ap₂, ◌∙◌}
 use mathlib.Core.Bool.{Bool, true, false}
 use mathlib.Core.List.{List}
-use Prim.Native.Nat.{ℕ, ◌+◌, ◌*◌}
+use Prim.Native.Nat.{ℕ, ◌+◌}
 use native.Mathlib.Numerals.{add-one}
 use native.Mathlib.Nat.{add-zero}
 use native.Mathlib.Omega.{arith}
 use Rattle.parity.specs.Presence.{present}
 use Rattle.text.specs.Text.{Wrote}
 use Rattle.text.proofs.Writing.{wrote_none, wrote_then, wrote_same}
-use Rattle.image.specs.Format.{joined, present_below}
+use Rattle.image.specs.Format.{joined}
 use Rattle.image.proofs.Laid.{bodies_none}
 use Rattle.image_writer.specs.Pieces.{entry_of}
 use Rattle.image_writer.proofs.Joining.{begins, entries, entries_length, body_fits, begins_next}
@@ -52,11 +51,3 @@ loop-t-preserved c =
         | else-there w ↦ w.body-is ∙ c.loop-t.invariant.2 ∙ sym (add-zero _) ∙ next false (sym there ∙ w.if-there.false)
       ],
     )
-
-pub shape_of-image : goal.shape_of-image
-shape_of-image c = c.loop-t.invariant.1.size
-
-pub returns : goal.returns
-returns c =
-    let e : c.loop-t.t ≡ c.args.columns = omega arith in
-    rw e at c.loop-t.invariant.1

@@ -7,55 +7,52 @@ use native.Mathlib.Omega.{arith}
 use Rattle.parity.specs.Presence.{absences}
 use Rattle.maps.specs.Truth.{absent_by_count}
 use Rattle.inputs.specs.Rules.{too_many_absent, lent_rules}
-use Rattle.refusals.proofs.Rules.{gives_first, gives_next, gives_after}
-use Rattle.inputs.proofs.Shape.{places_most}
+use Rattle.refusals.proofs.Rules.{gives_first, gives_next, gives_refused, gives_after, handed_on}
+use Rattle.inputs.proofs.ShapeLaws.{places_most}
 use Rattle.maps.proofs.Truth.{absent_counted}
-use Rattle.inputs.proofs.Tests.{told_refused, Lent, lent_good}
+use Rattle.inputs.proofs.Tests.{Lent, lent_good}
 use Rattle.inputs.proofs.lent.judge_gaps.Goals as goal
+use Rattle.inputs.proofs.lent.judge_gaps.Goals.{In_ok-column}
 
-pub returns-in_default : goal.returns-in_default
-returns-in_default c =
+good : (c : In_ok-column) → Lent c.args.shape.m c.args.shape.k c.args.shape.b c.args.length c.args.map c.args.held c.in_ok-column.column
+good c = lent_good _ _ _ _ _ _ c.in_ok-column.ensures
+
+-- how many columns are absent, by the count
+absent : (c : In_ok-column) → (c.args.map.present ≤ c.args.shape.k + 2) × (absences c.args.shape.k c.args.map.places ≡ absent_by_count c.args.shape.k c.args.map)
+absent c = let g = good c in absent_counted _ g.truth _ g.clear
+
+pub returns-in_err-column : goal.returns-in_err-column
+returns-in_err-column c =
     let a = c.args in
-    record {
-      told = told_refused (lent_rules a.m a.k a.b a.map a.length a.held) (too_many_absent a.k a.map ∷ [])
-          c.judge_lent-judged.result c.judge_lent-judged.ensures.told c.in_default.is c.refusal.ensures;
+    rw (handed_on c.from_residual.result c.from_residual.ensures.1) (record {
+      told = gives_refused (lent_rules a.shape.m a.shape.k a.shape.b a.map a.length a.held) (too_many_absent a.shape.k a.map ∷ []) _ c.in_err-column.ensures.told;
       good = tt;
-    }
+    })
 
 pub overflow_add-columns : goal.overflow_add-columns
 overflow_add-columns c =
-    let good : Lent c.args.m c.args.k c.args.b c.args.length c.args.map c.args.held c.in-Good.column = lent_good _ _ _ _ _ _ c.judge_lent-judged.result c.judge_lent-judged.ensures c.in-Good.is in
-    omega (arith, places_most good.numbers.shape)
+    omega (arith, places_most (good (goal.at.overflow_add-columns c).In_ok-column).numbers.shape)
 
 pub overflow_sub-absent : goal.overflow_sub-absent
 overflow_sub-absent c =
-    let good : Lent c.args.m c.args.k c.args.b c.args.length c.args.map c.args.held c.in-Good.column = lent_good _ _ _ _ _ _ c.judge_lent-judged.result c.judge_lent-judged.ensures c.in-Good.is in
-    -- how many columns are absent, by the count
-    let absent : (c.args.map.present ≤ c.args.k + 2) × (absences c.args.k c.args.map.places ≡ absent_by_count c.args.k c.args.map) = absent_counted _ good.truth _ good.clear in
-    omega (arith, absent.0, places_most good.numbers.shape)
+    omega (arith, (absent (goal.at.overflow_sub-absent c).In_ok-column).0, places_most (good (goal.at.overflow_sub-absent c).In_ok-column).numbers.shape)
 
 pub returns-then-absent-gt2 : goal.returns-then-absent-gt2
 returns-then-absent-gt2 c =
-    let good : Lent c.args.m c.args.k c.args.b c.args.length c.args.map c.args.held c.in-Good.column = lent_good _ _ _ _ _ _ c.judge_lent-judged.result c.judge_lent-judged.ensures c.in-Good.is in
-    -- how many columns are absent, by the count
-    let absent : (c.args.map.present ≤ c.args.k + 2) × (absences c.args.k c.args.map.places ≡ absent_by_count c.args.k c.args.map) = absent_counted _ good.truth _ good.clear in
     let a = c.args in
-    let e = absent.1 in
+    let e = (absent (goal.at.returns-then-absent-gt2 c).In_ok-column).1 in
     record {
-      told = gives_after (lent_rules a.m a.k a.b a.map a.length a.held) (too_many_absent a.k a.map ∷ []) _
-          good.tests (gives_first (omega (arith, c.if-absent-gt2.true)));
+      told = gives_after (lent_rules a.shape.m a.shape.k a.shape.b a.map a.length a.held) (too_many_absent a.shape.k a.map ∷ []) _
+          (good (goal.at.returns-then-absent-gt2 c).In_ok-column).tests (gives_first (omega (arith, c.if-absent-gt2.true)));
       good = tt;
     }
 
 pub returns : goal.returns
 returns c =
-    let good : Lent c.args.m c.args.k c.args.b c.args.length c.args.map c.args.held c.in-Good.column = lent_good _ _ _ _ _ _ c.judge_lent-judged.result c.judge_lent-judged.ensures c.in-Good.is in
-    -- how many columns are absent, by the count
-    let absent : (c.args.map.present ≤ c.args.k + 2) × (absences c.args.k c.args.map.places ≡ absent_by_count c.args.k c.args.map) = absent_counted _ good.truth _ good.clear in
     let a = c.args in
-    let e = absent.1 in
+    let e = (absent (goal.at.returns c).In_ok-column).1 in
     record {
-      told = gives_after (lent_rules a.m a.k a.b a.map a.length a.held) (too_many_absent a.k a.map ∷ []) _
-          good.tests (gives_next (λ h. omega (arith, c.if-absent-gt2.false)) refl);
-      good = (good.numbers.column, c.gaps-gaps.ensures.some (places_most good.numbers.shape));
+      told = gives_after (lent_rules a.shape.m a.shape.k a.shape.b a.map a.length a.held) (too_many_absent a.shape.k a.map ∷ []) _
+          (good (goal.at.returns c).In_ok-column).tests (gives_next (λ h. omega (arith, c.if-absent-gt2.false)) refl);
+      good = ((good (goal.at.returns c).In_ok-column).numbers.column, c.gaps.ensures.some (places_most (good (goal.at.returns c).In_ok-column).numbers.shape));
     }

@@ -5,45 +5,45 @@ use Prim.Native.Nat.{◌*◌, ◌≤◌}
 use native.Mathlib.Nat.{mul-le-mul_right}
 use native.Mathlib.Omega.{arith}
 use Rattle.inputs.specs.Rules.{wrong_lists, stripe_rules}
-use Rattle.inputs.proofs.Tests.{passed_on, Numbers, stripe_good}
+use Rattle.refusals.proofs.Rules.{gives_refused, handed_on}
+use Rattle.inputs.proofs.Tests.{Numbers, stripe_good}
 use Rattle.inputs.proofs.CellLists.{lists_refused, lists_passed}
 use Rattle.inputs.proofs.lists.judge_lists.Goals as goal
+use Rattle.inputs.proofs.lists.judge_lists.Goals.{In_ok-column}
 
-pub returns-in_default : goal.returns-in_default
-returns-in_default c =
+good : (c : In_ok-column) → Numbers c.args.shape.m c.args.shape.k c.args.shape.b c.args.length c.in_ok-column.column
+good c = stripe_good _ _ _ _ c.in_ok-column.ensures
+
+pub returns-in_err-column : goal.returns-in_err-column
+returns-in_err-column c =
     let a = c.args in
-    record {
-      told = passed_on (stripe_rules a.m a.k a.b a.length) (wrong_lists a.b a.columns a.rows a.cells ∷ []) c.judge_stripe-judged.result c.judge_stripe-judged.ensures.told c.in_default.is;
-      column = c.judge_stripe-judged.ensures.column;
-    }
+    rw (handed_on c.from_residual.result c.from_residual.ensures.1) (record {
+      told = gives_refused (stripe_rules a.shape.m a.shape.k a.shape.b a.length) (wrong_lists a.shape.b a.columns a.rows a.cells ∷ []) _ c.in_err-column.ensures.told;
+      column = tt;
+    })
 
 pub returns-then-rows-columns : goal.returns-then-rows-columns
 returns-then-rows-columns c =
-    let good : Numbers c.args.m c.args.k c.args.b c.args.length c.in-Good.column = stripe_good _ _ _ _ c.judge_stripe-judged.result c.judge_stripe-judged.ensures c.in-Good.is in
-    let n = good in lists_refused _ _ _ _ _ _ _ n.shape n.stripe (inl c.if-rows-columns.true)
+    let n = good (goal.at.returns-then-rows-columns c).In_ok-column in lists_refused _ _ _ _ _ _ _ n.shape n.stripe (inl c.if-rows-columns.true)
 
 pub returns-then-columns-gt256 : goal.returns-then-columns-gt256
 returns-then-columns-gt256 c =
-    let good : Numbers c.args.m c.args.k c.args.b c.args.length c.in-Good.column = stripe_good _ _ _ _ c.judge_stripe-judged.result c.judge_stripe-judged.ensures c.in-Good.is in
-    let n = good in lists_refused _ _ _ _ _ _ _ n.shape n.stripe (inr (inl c.if-columns-gt256.true))
+    let n = good (goal.at.returns-then-columns-gt256 c).In_ok-column in lists_refused _ _ _ _ _ _ _ n.shape n.stripe (inr (inl c.if-columns-gt256.true))
 
 pub overflow_mul-columns : goal.overflow_mul-columns
 overflow_mul-columns c =
-    let good : Numbers c.args.m c.args.k c.args.b c.args.length c.in-Good.column = stripe_good _ _ _ _ c.judge_stripe-judged.result c.judge_stripe-judged.ensures c.in-Good.is in
     let a = c.args in
-    let most : a.columns * a.b ≤ 256 * a.b = mul-le-mul_right a.b (omega (arith, c.if-columns-gt256.false)) in
-    omega (arith, most, good.shape.short)
+    let most : a.columns * a.shape.b ≤ 256 * a.shape.b = mul-le-mul_right a.shape.b (omega (arith, c.if-columns-gt256.false)) in
+    omega (arith, most, (good (goal.at.overflow_mul-columns c).In_ok-column).shape.short)
 
 pub returns-then-cells-columns : goal.returns-then-cells-columns
 returns-then-cells-columns c =
-    let good : Numbers c.args.m c.args.k c.args.b c.args.length c.in-Good.column = stripe_good _ _ _ _ c.judge_stripe-judged.result c.judge_stripe-judged.ensures c.in-Good.is in
-    let n = good in lists_refused _ _ _ _ _ _ _ n.shape n.stripe (inr (inr c.if-cells-columns.true))
+    let n = good (goal.at.returns-then-cells-columns c).In_ok-column in lists_refused _ _ _ _ _ _ _ n.shape n.stripe (inr (inr c.if-cells-columns.true))
 
 pub returns : goal.returns
 returns c =
-    let good : Numbers c.args.m c.args.k c.args.b c.args.length c.in-Good.column = stripe_good _ _ _ _ c.judge_stripe-judged.result c.judge_stripe-judged.ensures c.in-Good.is in
-    let n = good in
+    let n = good (goal.at.returns c).In_ok-column in
     record {
-      told = rw c.in-Good.is (lists_passed _ _ _ _ _ _ _ n.shape n.stripe (record { even = c.if-rows-columns.false; few = omega (arith, c.if-columns-gt256.false); full = c.if-cells-columns.false }));
-      column = c.judge_stripe-judged.ensures.column;
+      told = (lists_passed _ _ _ _ _ _ _ n.shape n.stripe (record { even = c.if-rows-columns.false; few = omega (arith, c.if-columns-gt256.false); full = c.if-cells-columns.false }));
+      column = n.column;
     }

@@ -4,10 +4,9 @@ use mathlib.Core.Logic.{inl, inr}
 use mathlib.Core.Bool.{true≢false}
 use Prim.Native.Nat.{◌≤◌}
 use native.Mathlib.Omega.{arith}
-use borrow.Author.Tests.{not-true, not-false, ltb-true, ltb-false}
 use Rattle.parity.specs.Shape.{OddPrime, Shape, column_length}
 use Rattle.parity.proofs.Shapes.{accepted_prime, prime_accepted}
-use Rattle.inputs.proofs.Shape.{column_most, judges_m, judges_k, judges_b, judges_good}
+use Rattle.inputs.proofs.ShapeLaws.{column_most, judges_m, judges_k, judges_b, judges_good}
 use Rattle.inputs.proofs.shapes.judge.Goals as goal
 
 pub returns-then-not-is_accepted : goal.returns-then-not-is_accepted
@@ -16,26 +15,26 @@ returns-then-not-is_accepted c = judges_m _ _ _ (λ p. true≢false (sym (c.is_a
 pub returns-then-k-eq0 : goal.returns-then-k-eq0
 returns-then-k-eq0 c =
     -- past the first test m is right
-    let prime : OddPrime c.args.m = accepted_prime _ (sym c.is_accepted.ensures ∙ c.if-not-is_accepted.false) in
+    let prime : OddPrime c.args.shape.m = accepted_prime _ (sym c.is_accepted.ensures ∙ c.if-not-is_accepted.false) in
     judges_k _ _ _ prime (elim c.then-k-eq0.either [ inl t ↦ inl t | inr t ↦ inr t.1 ])
 
 pub returns-then-b-eq0 : goal.returns-then-b-eq0
 returns-then-b-eq0 c =
     -- past the first test m is right
-    let prime : OddPrime c.args.m = accepted_prime _ (sym c.is_accepted.ensures ∙ c.if-not-is_accepted.false) in
+    let prime : OddPrime c.args.shape.m = accepted_prime _ (sym c.is_accepted.ensures ∙ c.if-not-is_accepted.false) in
     -- past the second so is k
-    let columns : (1 ≤ c.args.k) × (c.args.k ≤ c.args.m) = (omega (arith, c.if-k-eq0.false), c.if-m-k.false) in
+    let columns : (1 ≤ c.args.shape.k) × (c.args.shape.k ≤ c.args.shape.m) = (omega (arith, c.if-k-eq0.false), c.if-m-k.false) in
     let (real, few) = columns in
     judges_b _ _ _ prime real few (elim c.then-b-eq0.either [ inl t ↦ inl t | inr t ↦ inr t.1 ])
 
 pub overflow_sub-result : goal.overflow_sub-result
 overflow_sub-result c =
     -- past the first test m is right
-    let prime : OddPrime c.args.m = accepted_prime _ (sym c.is_accepted.ensures ∙ c.if-not-is_accepted.false) in
+    let prime : OddPrime c.args.shape.m = accepted_prime _ (sym c.is_accepted.ensures ∙ c.if-not-is_accepted.false) in
     -- past the second so is k
-    let columns : (1 ≤ c.args.k) × (c.args.k ≤ c.args.m) = (omega (arith, c.if-k-eq0.false), c.if-m-k.false) in
+    let columns : (1 ≤ c.args.shape.k) × (c.args.shape.k ≤ c.args.shape.m) = (omega (arith, c.if-k-eq0.false), c.if-m-k.false) in
     -- and past the third the numbers are a shape
-    let good : Shape c.args.m c.args.k c.args.b = let (real, few) = columns in
+    let good : Shape c.args.shape.m c.args.shape.k c.args.shape.b = let (real, few) = columns in
     record {
       value = prime;
       real = real;
@@ -49,11 +48,11 @@ pub overflow_mul-result : goal.overflow_mul-result
 unfolding column_length
 overflow_mul-result c =
     -- past the first test m is right
-    let prime : OddPrime c.args.m = accepted_prime _ (sym c.is_accepted.ensures ∙ c.if-not-is_accepted.false) in
+    let prime : OddPrime c.args.shape.m = accepted_prime _ (sym c.is_accepted.ensures ∙ c.if-not-is_accepted.false) in
     -- past the second so is k
-    let columns : (1 ≤ c.args.k) × (c.args.k ≤ c.args.m) = (omega (arith, c.if-k-eq0.false), c.if-m-k.false) in
+    let columns : (1 ≤ c.args.shape.k) × (c.args.shape.k ≤ c.args.shape.m) = (omega (arith, c.if-k-eq0.false), c.if-m-k.false) in
     -- and past the third the numbers are a shape
-    let good : Shape c.args.m c.args.k c.args.b = let (real, few) = columns in
+    let good : Shape c.args.shape.m c.args.shape.k c.args.shape.b = let (real, few) = columns in
     record {
       value = prime;
       real = real;
@@ -67,11 +66,11 @@ pub returns : goal.returns
 unfolding column_length
 returns c =
     -- past the first test m is right
-    let prime : OddPrime c.args.m = accepted_prime _ (sym c.is_accepted.ensures ∙ c.if-not-is_accepted.false) in
+    let prime : OddPrime c.args.shape.m = accepted_prime _ (sym c.is_accepted.ensures ∙ c.if-not-is_accepted.false) in
     -- past the second so is k
-    let columns : (1 ≤ c.args.k) × (c.args.k ≤ c.args.m) = (omega (arith, c.if-k-eq0.false), c.if-m-k.false) in
+    let columns : (1 ≤ c.args.shape.k) × (c.args.shape.k ≤ c.args.shape.m) = (omega (arith, c.if-k-eq0.false), c.if-m-k.false) in
     -- and past the third the numbers are a shape
-    let good : Shape c.args.m c.args.k c.args.b = let (real, few) = columns in
+    let good : Shape c.args.shape.m c.args.shape.k c.args.shape.b = let (real, few) = columns in
     record {
       value = prime;
       real = real;

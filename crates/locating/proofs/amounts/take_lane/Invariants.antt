@@ -6,4 +6,4 @@ use Rattle.locating.proofs.amounts.take_lane.Given as goal
 
 abbrev pub invariant-loop-i : goal.invariant-loop-i
 invariant-loop-i l =
-    (l.i ≤ l.last) × Put l.initial.x l.x 0 l.i (λ i. get_or l.s (l.from + i * l.b) 0)
+    (l.i ≤ l.last) × Put l.initial.byte-items l.byte-items 0 l.i (λ i. get_or l.s (l.from + i * l.b) 0)

@@ -4,16 +4,12 @@ use mathlib.Core.Bool.{true≢false}
 use Rattle.locating.proofs.Confirmed.{sound, only_D}
 use Rattle.locating.proofs.confirming.locate.Goals as goal
 
-pub locate_by_row-requires : goal.locate_by_row-requires
-locate_by_row-requires c =
-    (c.requires, record { inside = c.if-i-g.true; there = c.find_broken_row-i.ensures.there c.if-i-g.true })
-
 pub returns-then-fits_but : goal.returns-then-fits_but
 returns-then-fits_but c =
     let a = c.args in
-    sound a.g.m a.g.k a.g.b a.s.now (c.find_broken_row-i.ensures.none c.if-i-g.false) (c.fits_but.ensures.0 c.if-fits_but.true)
+    sound a.g.m a.g.k a.g.b a.s.now c.in_default.ensures (c.fits_but.ensures.0 c.if-fits_but.true)
 
 pub returns : goal.returns
 returns c =
     let a = c.args in
-    only_D a.g.m a.g.k a.g.b a.s.now (c.find_broken_row-i.ensures.none c.if-i-g.false) (λ f. true≢false (sym (c.fits_but.ensures.1 f) ∙ c.if-fits_but.false))
+    only_D a.g.m a.g.k a.g.b a.s.now c.in_default.ensures (λ f. true≢false (sym (c.fits_but.ensures.1 f) ∙ c.if-fits_but.false))

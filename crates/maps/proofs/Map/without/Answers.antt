@@ -1,6 +1,5 @@
 -- `maps::Map::without` meets its contract: where the place was present, one less is, and where it was the highest, the next is found.
 use native.Mathlib.Omega.{arith}
-use borrow.Author.Tests.{not-true, not-false}
 use Rattle.parity.specs.Presence.{present}
 use Rattle.maps.proofs.Truth.{counted_cleared, highest_left}
 use Rattle.maps.proofs.Presence.{marked_already, marked_cleared}

@@ -2,7 +2,7 @@
 use mathlib.Core.Path.{refl}
 use Prim.Native.Nat.{◌+◌, ◌*◌, ◌-◌}
 use Rattle.parity.specs.Shape.{column_length, stripe_length, bench_length}
-use Rattle.inputs.proofs.Shape.{column_most, places_most, parts_most}
+use Rattle.inputs.proofs.ShapeLaws.{column_most, places_most, parts_most}
 use Rattle.text.proofs.Writing.{wrote_then, wrote_same}
 use Rattle.report.proofs.Told.{held_lent, text_lent}
 use native.Mathlib.Omega.{arith}
@@ -21,22 +21,20 @@ pub overflow_mul-double : goal.overflow_mul-double
 unfolding stripe_length bench_length column_length
 overflow_mul-double c = omega (arith, column_most c.requires.held.shape)
 
-pub slice_bounds-put_columns-end : goal.slice_bounds-put_columns-end
+pub slice_bounds-columns-end : goal.slice_bounds-columns-end
 unfolding stripe_length bench_length column_length
-slice_bounds-put_columns-end c = c.requires.long
+slice_bounds-columns-end c = c.requires.long
 
-pub slice_bounds-put_columns-end-2 : goal.slice_bounds-put_columns-end-2
+pub slice_bounds-columns-end-2 : goal.slice_bounds-columns-end-2
 unfolding stripe_length bench_length column_length
-slice_bounds-put_columns-end-2 c =
-    c.requires.spare
+slice_bounds-columns-end-2 c = c.requires.spare
 
-pub put_columns-last-requires : goal.put_columns-last-requires
+pub invariant_of-columns : goal.invariant_of-columns
 unfolding stripe_length bench_length column_length
-put_columns-last-requires c =
+invariant_of-columns c =
     let a = c.args in
     let column = (a.shape.m - 1) * a.shape.b in
-    let p = c.requires in
-    (held_lent a.shape a.map a.stripe.now a.bench.now ((a.shape.k + 2) * column) (2 * column) refl refl p.held, omega (arith, p.fits, c.put_shape-next.ensures.1, c.put_shape-next.ensures.0.size))
+    record { held = held_lent a.shape a.map a.stripe.now a.bench.now ((a.shape.k + 2) * column) (2 * column) refl refl c.requires.held }
 
 pub returns : goal.returns
 unfolding stripe_length bench_length column_length

@@ -14,21 +14,21 @@ use Rattle.report.proofs.writing.put_columns.Goals as goal
 pub loop-t-init : goal.loop-t-init
 loop-t-init c =
     let a = c.args in
-    (refl, search rules, wrote_same (wrote_none a.out.now a.at) (lines_none a.map.places (shown a.shape.m a.shape.b a.map.places a.stripe.now a.bench.now)), omega arith)
+    (refl, search rules, wrote_same (wrote_none a.out.now a.at) (lines_none a.columns.map.places (shown a.columns.shape.m a.columns.shape.b a.columns.map.places a.columns.stripe.now a.columns.bench.now)), omega arith)
 
 pub put_column-next-requires : goal.put_column-next-requires
 put_column-next-requires c =
     let l = c.loop-t in
-    let w = 15 + 2 * column_length c.args.shape.m c.args.shape.b in
-    (c.requires.0, omega arith, omega (arith, parts_end {t = l.t} {k = c.args.shape.k + 2} w (omega arith), l.invariant.2.size))
+    let w = 15 + 2 * column_length c.args.columns.shape.m c.args.columns.shape.b in
+    (omega arith, omega (arith, parts_end {t = l.t} {k = c.args.columns.shape.k + 2} w (omega arith), l.invariant.2.size))
 
 pub loop-t-preserved : goal.loop-t-preserved
 loop-t-preserved c =
     let l = c.loop-t in
-    let w = 15 + 2 * column_length c.args.shape.m c.args.shape.b in
-    let f = shown c.args.shape.m c.args.shape.b c.args.map.places c.args.stripe.now c.args.bench.now in
+    let w = 15 + 2 * column_length c.args.columns.shape.m c.args.columns.shape.b in
+    let f = shown c.args.columns.shape.m c.args.columns.shape.b c.args.columns.map.places c.args.columns.stripe.now c.args.columns.bench.now in
     let line = c.put_column-next.ensures in
-    (refl, omega arith, wrote_same (wrote_then l.invariant.2 line.0) (lines_next l.t c.args.map.places f), omega (arith, suc-mul l.t w))
+    (refl, omega arith, wrote_same (wrote_then l.invariant.2 line.0) (lines_next l.t c.args.columns.map.places f), omega (arith, suc-mul l.t w))
 
 pub shape_of-out : goal.shape_of-out
 shape_of-out c = c.loop-t.invariant.2.size
@@ -37,5 +37,5 @@ pub returns : goal.returns
 returns c =
     let a = c.args in
     let l = c.loop-t in
-    let e : l.t ≡ a.shape.k + 2 = omega arith in
+    let e : l.t ≡ a.columns.shape.k + 2 = omega arith in
     (rw e at l.invariant.2, rw e at l.invariant.3)

@@ -9,5 +9,5 @@ use Rattle.report.proofs.writing.put_columns.Given as goal
 
 abbrev pub invariant-loop-t : goal.invariant-loop-t
 invariant-loop-t l =
-    (l.t-end ≡ l.shape.k + 2) × (l.t ≤ l.t-end) × Wrote l.initial.out l.out l.at l.next (column_lines l.t l.map.places (shown l.shape.m l.shape.b l.map.places l.stripe l.bench))
-    × (l.next ≤ l.at + l.t * (15 + 2 * column_length l.shape.m l.shape.b))
+    (l.t-end ≡ l.columns.shape.k + 2) × (l.t ≤ l.t-end) × Wrote l.initial.out l.out l.at l.next (column_lines l.t l.columns.map.places (shown l.columns.shape.m l.columns.shape.b l.columns.map.places l.columns.stripe.now l.columns.bench.now))
+    × (l.next ≤ l.at + l.t * (15 + 2 * column_length l.columns.shape.m l.columns.shape.b))

@@ -1,7 +1,6 @@
 -- `shelf::reading::read_input` meets its contract. The invariant: what was read lies within the buffer, whose length stays. Each turn that goes on
 -- has read some bytes.
 use mathlib.Core.Path.{◌≡◌}
-use mathlib.Core.List.{[]}
 use Prim.Native.Nat.{◌≤◌, ◌-◌}
 use lib.ListN.{length}
 use Rattle.shelf.proofs.reading.read_input.Given as goal
