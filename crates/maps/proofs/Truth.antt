@@ -11,15 +11,15 @@ use mathlib.Core.Path.{◌≡◌, refl, sym, ap, ◌∙◌}
 use mathlib.Core.Logic.{◌≢◌, ◌↔◌, by_cases}
 use mathlib.Core.Bool.{Bool, true, false, cond, true≢false}
 use mathlib.Core.List.{List}
-use Prim.Native.Nat.{ℕ, suc, max, ◌+◌, ◌-◌, ◌*◌, ◌≤◌, ◌<◌}
+use Prim.Native.Nat.{ℕ, suc, ◌+◌, ◌-◌, ◌*◌, ◌≤◌, ◌<◌}
 use native.Mathlib.Nat.{zero-mul, one-mul}
 use native.Mathlib.Decide.{ℕ_discrete, dec_lt}
 use native.Mathlib.Omega.{arith}
-use lib.Dec.{eqb}
+use lib.Dec.{eqb, ltb}
 use lib.ListN.{length, set}
 use lib.Seq.{get_or-set_same, get_or-set_other}
 use mir.Val.{bool_byte}
-use borrow.Author.Tests.{eq-eqb, ne_eqb}
+use borrow.Author.Tests.{lt-ltb, le-ltb, eq-eqb, ne_eqb}
 use Rattle.parity.specs.Sum.{count}
 use Rattle.parity.specs.Presence.{present, absences}
 use Rattle.parity.proofs.Count.{last_pass, none_pass}
@@ -38,13 +38,13 @@ topped_none places = record { most = omega arith; there = λ h. absurd (omega ar
 
 -- a place that is present gives its top, which is above those before it; another gives nothing
 pub topped_more : (t : ℕ) (places : List Bool) (top r : ℕ) → Topped t places top
-    → r ≡ max top (bool_byte (present places t) * (t + 1)) → Topped (t + 1) places r
+    → r ≡ cond (ltb top (bool_byte (present places t) * (t + 1))) (bool_byte (present places t) * (t + 1)) top → Topped (t + 1) places r
 topped_more t places top r h e = go (present places t) refl
   where
     go : (b : Bool) → present places t ≡ b → Topped (t + 1) places r
     go true p =
         let here : bool_byte (present places t) * (t + 1) ≡ t + 1 = rw p (one-mul (t + 1)) in
-        let q : r ≡ t + 1 = (let m = h.most in omega arith) in
+        let q : r ≡ t + 1 = rw (here, lt-ltb top (t + 1) (let m = h.most in omega arith)) at e in
         record {
           most = omega arith;
           there = λ _. (let z : r - 1 ≡ t = omega arith in ap (present places) z ∙ p);
@@ -52,7 +52,7 @@ topped_more t places top r h e = go (present places t) refl
         }
     go false p =
         let here : bool_byte (present places t) * (t + 1) ≡ 0 = rw p (zero-mul (t + 1)) in
-        let q : r ≡ top = omega arith in
+        let q : r ≡ top = rw (here, le-ltb top 0 (omega arith)) at e in
         record {
           most = let m = h.most in omega arith;
           there = λ a. ap (λ (x : ℕ). present places (x - 1)) q ∙ h.there (omega arith);

@@ -1,5 +1,5 @@
 // The presence map: 129 places, each present or absent, and two numbers: how many are present, and the highest present one. Only this file
-// looks into its array.
+// looks into its array. Its loops go by index: with iterators and the array's `map`, which proved, restore took 1.6 to 3.4 of the time at short shapes.
 #![tactic(auto)]
 
 ghost use Rattle.std.specs.Prelude.{◌≡◌, Bool, true, false, cond, List, ◌↔◌, ◌+◌, ◌≤◌, ◌<◌, ltb, length, set};
@@ -38,21 +38,25 @@ impl Gaps {
         if there {
             return self;
         }
-        match self.count {
-            0 => Self {
+        let count = self.count;
+        if count == 0 {
+            return Self {
                 count: 1,
                 first: place,
-                ..self
-            },
-            1 => Self {
+                second: self.second,
+            };
+        }
+        if count == 1 {
+            return Self {
                 count: 2,
+                first: self.first,
                 second: place,
-                ..self
-            },
-            count => Self {
-                count: count + 1,
-                ..self
-            },
+            };
+        }
+        Self {
+            count: count + 1,
+            first: self.first,
+            second: self.second,
         }
     }
 }
@@ -67,7 +71,8 @@ fn find_gaps(places: [bool; 129], n: usize) -> Gaps
         first: 129,
         second: 129,
     };
-    for (t, &there) in places[..n].iter().enumerate() {
+    for t in 0..n {
+        let there = places[t];
         gaps = gaps.counted(t, there);
     }
     gaps
@@ -78,10 +83,17 @@ fn count_present(places: [bool; 129]) -> usize
     ensures { result ≡ count 129 (present places) }
 {
     let mut c: u8 = 0;
-    for &there in &places {
-        c += there as u8;
+    for t in 0..129 {
+        c += places[t] as u8;
     }
     c as usize
+}
+
+// The larger of two numbers.
+fn larger(x: u8, y: u8) -> u8
+    ensures { result ≡ cond (ltb x y) y x }
+{
+    if x < y { y } else { x }
 }
 
 // One more than the highest present place, and 0 where none is present. Each present place gives one more than its number, and the largest is kept, which is
@@ -90,8 +102,8 @@ fn find_top(places: [bool; 129]) -> u8
     ensures { Topped 129 places result }
 {
     let mut top: u8 = 0;
-    for (t, &there) in places.iter().enumerate() {
-        top = top.max(there as u8 * (t as u8 + 1));
+    for t in 0..129 {
+        top = larger(top, places[t] as u8 * (t as u8 + 1));
     }
     top
 }
@@ -156,14 +168,23 @@ impl Map {
     pub fn of_bytes(bytes: &[u8; 129]) -> Self
         ensures { OfBytes bytes.now result }
     {
-        Self::of_places(bytes.map(|byte| byte == 1))
+        let mut places = [false; 129];
+        for t in 0..129 {
+            places[t] = bytes[t] == 1;
+        }
+        Self::of_places(places)
     }
 
     // The places in 129 bytes: 1 for present, 0 for absent.
     pub fn bytes(self) -> [u8; 129]
         ensures { AsBytes self result }
     {
-        self.places.map(|there| there as u8)
+        let places = self.places;
+        let mut bytes: [u8; 129] = [0; 129];
+        for t in 0..129 {
+            bytes[t] = places[t] as u8;
+        }
+        bytes
     }
 
     // Whether the two numbers are what the places say.
@@ -248,7 +269,10 @@ impl Map {
     pub fn is_present(self, place: usize) -> bool
         ensures { result ≡ present self.places place }
     {
-        place < 129 && self.places[place]
+        if 129 <= place {
+            return false;
+        }
+        self.places[place]
     }
 
     // The absent places below n, of the 129.

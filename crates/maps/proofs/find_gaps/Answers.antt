@@ -1,9 +1,6 @@
 -- `maps::find_gaps` meets its contract. The loop's invariant: the gaps are those below t.
-use mathlib.Core.Path.{◌≡◌, sym}
-use mathlib.Core.Bool.{false}
-use Prim.Native.Nat.{◌<◌}
+use mathlib.Core.Path.{◌≡◌, refl}
 use native.Mathlib.Omega.{arith}
-use lib.Seq.{get_or-take}
 use borrow.Author.Rules.{rules}
 use Rattle.parity.specs.Presence.{present}
 use Rattle.maps.proofs.Absent.{below_most, counts_none}
@@ -14,14 +11,11 @@ loop-t-init c = (search rules, counts_none _)
 
 pub counted-gaps-requires : goal.counted-gaps-requires
 counted-gaps-requires c =
-    let l : c.loop-t.t < c.args.n = search rules in
     omega (arith, c.loop-t.invariant.1.count, below_most c.args.places c.loop-t.t)
 
 pub loop-t-preserved : goal.loop-t-preserved
 unfolding present
-loop-t-preserved c =
-    let l : c.loop-t.t < c.args.n = search rules in
-    (search rules, c.counted-gaps.ensures c.args.places c.loop-t.invariant.1 (sym (get_or-take c.args.n c.args.places c.loop-t.t false l)))
+loop-t-preserved c = (search rules, c.counted-gaps.ensures c.args.places c.loop-t.invariant.1 refl)
 
 pub returns : goal.returns
-returns c = let e : c.loop-t.t ≡ c.args.n = search rules in rw e at c.loop-t.invariant.1
+returns c = let e : c.loop-t.t ≡ c.args.n = omega arith in rw e at c.loop-t.invariant.1

@@ -12,16 +12,16 @@ use Rattle.maps.proofs.find_top.Goals as goal
 pub loop-t-init : goal.loop-t-init
 loop-t-init c = (search rules, topped_none _)
 
-pub overflow_mul-there : goal.overflow_mul-there
+pub overflow_mul-places : goal.overflow_mul-places
 unfolding present
-overflow_mul-there c =
+overflow_mul-places c =
     let y = c.loop-t in
     let most = mul-le-mul_right (y.t + 1) (byte_most (present c.args.places y.t)) in
     omega (arith, most, one-mul (y.t + 1), y.invariant.0)
 
 pub loop-t-preserved : goal.loop-t-preserved
 unfolding present
-loop-t-preserved c = (search rules, topped_more _ _ _ _ c.loop-t.invariant.1 c.max-top.ensures)
+loop-t-preserved c = (search rules, topped_more _ _ _ _ c.loop-t.invariant.1 c.larger-top.ensures)
 
 pub returns : goal.returns
-returns c = let e : c.loop-t.t ≡ 129 = search rules in rw e at c.loop-t.invariant.1
+returns c = let e : c.loop-t.t ≡ 129 = omega arith in rw e at c.loop-t.invariant.1

@@ -4,4 +4,4 @@ use Rattle.maps.specs.Tops.{Topped}
 use Rattle.maps.proofs.find_top.Given as goal
 
 abbrev pub invariant-loop-t : goal.invariant-loop-t
-invariant-loop-t l = (l.t ≤ 129) × Topped l.t l.fn.places l.top
+invariant-loop-t l = (l.t ≤ 129) × Topped l.t l.places l.top

@@ -7,11 +7,11 @@ use Rattle.maps.proofs.Gaps.counted.Goals as goal
 pub returns-then-there : goal.returns-then-there
 returns-then-there c map n e = counts_present map _ _ n (e ∙ c.if-there.true)
 
-pub returns-in-0 : goal.returns-in-0
-returns-in-0 c map n e = counts_first map _ _ n (e ∙ c.if-there.false) c.in-0.is
+pub returns-then-count-eq0 : goal.returns-then-count-eq0
+returns-then-count-eq0 c map n e = counts_first map _ _ n (e ∙ c.if-there.false) c.if-count-eq0.true
 
-pub returns-in-1 : goal.returns-in-1
-returns-in-1 c map n e = counts_second map _ _ n (e ∙ c.if-there.false) c.in-1.is
+pub returns-then-count-eq1 : goal.returns-then-count-eq1
+returns-then-count-eq1 c map n e = counts_second map _ _ n (e ∙ c.if-there.false) c.if-count-eq1.true
 
-pub returns-in_default : goal.returns-in_default
-returns-in_default c map n e = counts_more map _ _ n (e ∙ c.if-there.false) (omega arith)
+pub returns : goal.returns
+returns c map n e = counts_more map _ _ n (e ∙ c.if-there.false) (omega arith)

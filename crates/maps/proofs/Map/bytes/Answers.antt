@@ -1,19 +1,16 @@
--- `maps::Map::bytes` meets its contract: each byte is what the closure says of its place.
-use mathlib.Core.Path.{◌≡◌, ◌∙◌}
-use mathlib.Core.Bool.{false}
-use lib.ListN.{get_or}
-use mir.Val.{bool_byte}
-use borrow.Author.Rules.{rules}
+-- `maps::Map::bytes` meets its contract. The loop's invariant: the bytes below t are those of the places.
+use mathlib.Core.Path.{refl}
 use Rattle.parity.specs.Presence.{present}
-use Rattle.maps.proofs.Filling.{as_number}
+use Rattle.maps.proofs.Filling.{filled_none, filled_more, as_bytes}
+use borrow.Author.Rules.{rules}
 use Rattle.maps.proofs.Map.bytes.Goals as goal
 
-pub returns : goal.returns
+pub loop-t-init : goal.loop-t-init
+loop-t-init c = (search rules, filled_none _ _ _ refl)
+
+pub loop-t-preserved : goal.loop-t-preserved
 unfolding present
-returns c = record {
-  whole = c.map.ensures.items.long;
-  at = λ t l.
-      let (_, _, called) = c.map.ensures.items.at t false 0 l in
-      let e : get_or c.map.result t 0 ≡ bool_byte (present c.args.self.places t) = search rules in
-      e ∙ as_number (present c.args.self.places t);
-}
+loop-t-preserved c = (search rules, filled_more _ _ _ _ c.loop-t.invariant.1 (search rules))
+
+pub returns : goal.returns
+returns c = as_bytes _ _ c.loop-t.t c.loop-t.invariant.1 (search rules)

@@ -1,21 +1,14 @@
--- `maps::Map::of_bytes` meets its contract: each place is what the closure says of its byte.
-use mathlib.Core.Path.{◌≡◌, ap, ◌∙◌}
-use mathlib.Core.Bool.{Bool, false}
-use mathlib.Core.List.{List}
-use lib.Dec.{eqb}
-use lib.ListN.{get_or}
+-- `maps::Map::of_bytes` meets its contract. The loop's invariant: the places below t are those of the bytes.
+use mathlib.Core.Path.{refl}
+use Rattle.maps.proofs.Filling.{filled_none, filled_more, of_bytes_lem}
 use borrow.Author.Rules.{rules}
-use Rattle.parity.specs.Presence.{present}
 use Rattle.maps.proofs.Map.of_bytes.Goals as goal
 
+pub loop-t-init : goal.loop-t-init
+loop-t-init c = (search rules, filled_none _ _ _ refl)
+
+pub loop-t-preserved : goal.loop-t-preserved
+loop-t-preserved c = (search rules, filled_more _ _ _ _ c.loop-t.invariant.1 (search rules))
+
 pub returns : goal.returns
-unfolding present
-returns c =
-    let made = c.of_places.ensures in
-    record {
-      at = λ t l.
-          let (_, _, called) = c.map.ensures.items.at t 0 false l in
-          let e : get_or c.map.result t false ≡ eqb (get_or c.args.bytes.now t 0) 1 = search rules in
-          ap (λ (places : List Bool). get_or places t false) made.same ∙ e;
-      truth = made.truth;
-    }
+returns c = of_bytes_lem _ _ c.loop-t.t _ c.loop-t.invariant.1 (search rules) c.of_places.ensures
