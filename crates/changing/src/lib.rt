@@ -62,7 +62,7 @@ fn change_on_s(s: &mut [u8], g: Grid, t: usize, i: usize, cell: &[u8])
     let d = g.k * g.column + g.column;
     let at = add_difference(s, g, t, i, cell);
     lines::add_to_each(s, d, g.m - 1, b, at);
-    s[at..at + b].copy_from_slice(cell);
+    cells::copy_into(&mut s[at..at + b], cell);
 }
 
 // The cell in row i of column t, which is a data column, becomes `cell`.

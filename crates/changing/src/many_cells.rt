@@ -20,7 +20,7 @@ fn change_owing(s: &mut [u8], owed: &mut [u8], g: Grid, t: usize, i: usize, cell
     let b = g.b;
     let at = add_difference(s, g, t, i, cell);
     cells::xor_into(owed, &s[at..at + b]);
-    s[at..at + b].copy_from_slice(cell);
+    cells::copy_into(&mut s[at..at + b], cell);
 }
 
 // The cell in row i of column t, which is a data column, becomes `cell`, but for what D's cells are owed.

@@ -30,13 +30,13 @@ pub fn put_byte(out: &mut [u8], at: usize, byte: u8) -> usize
     at + 1
 }
 
-// Writes the bytes of a word.
+// Writes the bytes of a word. `copy_from_slice` would do so by a call of memmove, which the archive for C needs for nothing else.
 pub fn put_word(out: &mut [u8], at: usize, word: &[u8]) -> usize
     requires { at + length word.now ≤ length out.old }
     ensures { Wrote out.old out.new at result word.now }
 {
     let end = at + word.len();
-    out[at..end].copy_from_slice(word);
+    cells::copy_into(&mut out[at..end], word);
     end
 }
 

@@ -19,8 +19,8 @@ add_to_each-requires c =
       inl (omega (arith, row, parts_end g.column c.requires.1)),
     )
 
-pub slice_bounds-copy_from_slice-end : goal.slice_bounds-copy_from_slice-end
-slice_bounds-copy_from_slice-end c =
+pub slice_bounds-copy_into-end : goal.slice_bounds-copy_into-end
+slice_bounds-copy_into-end c =
     let (place, d) = c.add_difference-at.ensures in
     let size = c.add_to_each.ensures.size ∙ d.second.size ∙ d.first.size in
     omega (arith, size, row_within c.requires.0 c.args.i c.requires.2, column_within c.requires.0 c.args.t (omega (arith, c.requires.1)))
@@ -35,5 +35,5 @@ returns c =
     let size = third.size ∙ d.second.size ∙ d.first.size in
     rw place (changed_on_s c.requires.0.sized g.k a.t a.i a.s.now _ a.cell.now c.requires.0.few c.requires.1 c.requires.2 d.between c.add_difference-at.new.s w
     d.first d.second third.before
-    (copied w _ a.cell.now (a.t * g.column + a.i * g.b) g.b (omega (arith, size, row_within c.requires.0 a.i c.requires.2, column_within c.requires.0 a.t (omega (arith, c.requires.1)))) c.requires.4 c.copy_from_slice.ensures.after)
+    (copied w _ a.cell.now (a.t * g.column + a.i * g.b) g.b (omega (arith, size, row_within c.requires.0 a.i c.requires.2, column_within c.requires.0 a.t (omega (arith, c.requires.1)))) c.requires.4 c.copy_into.ensures)
     c.requires.3 third)

@@ -16,4 +16,4 @@ returns c =
     let w = a.word.now in
     let n = a.at + length w - a.at in
     let e : n ≡ length w = omega arith in
-    subst (λ (y : List ℕ). Wrote x (put_mid a.at n x y) a.at (a.at + length w) w) (sym c.copy_from_slice.ensures.after) (wrote_part x w a.at n (a.at + length w) (omega arith) (sym e) (omega arith))
+    subst (λ (y : List ℕ). Wrote x (put_mid a.at n x y) a.at (a.at + length w) w) (sym c.copy_into.ensures) (wrote_part x w a.at n (a.at + length w) (omega arith) (sym e) (omega arith))

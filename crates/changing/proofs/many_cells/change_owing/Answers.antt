@@ -24,6 +24,6 @@ returns c =
     let there = c.add_difference-at.result in
     rw place (changed_owing c.requires.0.sized g.k a.t a.i a.s.now _ a.cell.now c.requires.0.few c.requires.2 c.requires.3 d.between w w
     d.first d.second (λ p h. refl)
-    (copied w _ a.cell.now (a.t * g.column + a.i * g.b) g.b (omega (arith, size, row_within c.requires.0 a.i c.requires.3, column_within c.requires.0 a.t (omega (arith, c.requires.2)))) c.requires.5 c.copy_from_slice.ensures.after)
+    (copied w _ a.cell.now (a.t * g.column + a.i * g.b) g.b (omega (arith, size, row_within c.requires.0 a.i c.requires.3, column_within c.requires.0 a.t (omega (arith, c.requires.2)))) c.requires.5 c.copy_into.ensures)
     c.requires.4 a.owed.now c.xor_into.new.acc refl c.requires.1
     (added_same c.xor_into.ensures (λ l h. part_at w there (there + g.b) l (omega (arith, c.requires.1)) ∙ ap (λ (x : ℕ). get_or w (x + l) 0) place)))
